@@ -1,0 +1,43 @@
+-- A float's parts: document 01, "Float parts" and the s of "Layout". Both widths by the format. Definitions only.
+use Prim.Native.Nat.{ℕ, zero, suc, _+_, _-_, _*_, _/_, _%_, _^_}
+use mathlib.Core.Bool.{Bool, true, false, cond}
+use lib.Dec.{eqb}
+use lib.IntN.{ℤ, pos, negsuc, _+ℤ_}
+use lib.Signed.{shrZ}
+use lib.Ieee.{Float, nan, inf, fin, Format, low, hid, ones, minus, size, toBits}
+
+-- finite, and the sign bit clear: what refusal 7 lets through
+abbrev pub isPlain : Float → Bool
+isPlain nan = false
+isPlain (inf s) = false
+isPlain (fin true m e) = false
+isPlain (fin false m e) = true
+
+-- the two fields of the bit pattern below the sign: 52 stored bits, or 23, and above them the biased exponent
+abbrev pub storedBits : Format → Float → ℕ
+storedBits f x = toBits f x % hid f
+
+abbrev pub biased : Format → Float → ℕ
+biased f x = toBits f x / hid f % suc (ones f)
+
+-- mantissa m: the stored bits, with the leading bit where the float is normal
+abbrev pub mantissa : Format → Float → ℕ
+mantissa f x = cond (eqb (biased f x) 0) (storedBits f x) (hid f + storedBits f x)
+
+-- exponent e: biased - 1,075, denormal -1,074; biased - 150, denormal -149
+abbrev pub exponent : Format → Float → ℤ
+exponent f x = cond (eqb (biased f x) 0) (minus 0 (low f)) (minus (biased f x) (suc (low f)))
+
+-- significant bits of the mantissa
+abbrev pub significantBits : ℕ → ℕ
+significantBits m = size m
+
+-- ---- the three exponents of a value m * 2 ^ e
+-- s, in bits: e + significant bits of the mantissa - 1; for zero 0
+abbrev pub scale : ℕ → ℤ → ℤ
+scale zero e = pos 0
+scale (suc m) e = e +ℤ pos (significantBits (suc m) - 1)
+
+-- p, in digits of b bits: floor (s / b), toward minus infinity
+abbrev pub place : ℕ → ℤ → ℤ
+place b s = shrZ s b

@@ -1,0 +1,8 @@
+// What every call shares: its answer, digit bytes and digit values.
+pub mod answer;
+pub mod digit;
+
+pub use answer::Refusal;
+pub use answer::Written;
+pub use digit::DigitValue;
+pub use digit::digit_value;
