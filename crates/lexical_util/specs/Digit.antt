@@ -1,11 +1,15 @@
 -- Digits as bytes and as numbers: document 01, "Integer digits" and "Reader". Definitions only.
 use Prim.Native.Nat.{ℕ, _+_, _-_, _*_}
-use mathlib.Core.Bool.{Bool, true, false, cond, _&&_}
+use mathlib.Core.Bool.{Bool, true, false, cond, _&&_, _||_}
 use mathlib.Core.List.{List, [], _∷_}
 use mathlib.Core.Option.{Option, none, some}
-use lib.Dec.{leb, ltb}
+use lib.Dec.{leb, ltb, eqb}
 use Rattle.lexical_util.specs.declared.digit.DigitValue.{DigitValue}
 use Rattle.lexical_util.specs.declared.digit.DigitValue.the-variants.{Digit, NoDigit}
+
+-- the radices of integers and of exponents: 2, 4, 8, 10, 16 or 32
+unfoldable pub isRadix : ℕ → Bool
+isRadix r = eqb r 2 || (eqb r 4 || (eqb r 8 || (eqb r 10 || (eqb r 16 || eqb r 32))))
 
 -- a digit's byte: 0-9 then capitals A-V
 unfoldable pub digitByte : ℕ → ℕ

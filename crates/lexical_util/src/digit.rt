@@ -1,6 +1,6 @@
-// The digit that a byte stands for.
+// Radices, and the digit that a byte stands for.
 ghost use mathlib.Core.Path.{_≡_};
-ghost use Rattle.lexical_util.specs.Digit.{digitValue, ofDigitValue};
+ghost use Rattle.lexical_util.specs.Digit.{digitValue, isRadix, ofDigitValue};
 
 pub enum DigitValue {
     Digit(u8),
@@ -15,5 +15,15 @@ pub fn digit_value(byte: u8) -> DigitValue
         b'0'..=b'9' => DigitValue::Digit(byte - b'0'),
         b'A'..=b'V' => DigitValue::Digit(byte - b'A' + 10),
         _ => DigitValue::NoDigit,
+    }
+}
+
+// The radices of integers and of exponents.
+pub fn is_radix(radix: u32) -> bool
+    ensures { λ r. ⌜ r ≡ isRadix radix ⌝ }
+{
+    match radix {
+        2 | 4 | 8 | 10 | 16 | 32 => true,
+        _ => false,
     }
 }

@@ -6,3 +6,4 @@ pub use answer::Refusal;
 pub use answer::Written;
 pub use digit::DigitValue;
 pub use digit::digit_value;
+pub use digit::is_radix;
