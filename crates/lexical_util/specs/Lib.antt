@@ -1,3 +1,4 @@
 pub mod Answer
 pub mod Digit
 pub mod Num
+pub mod Examples

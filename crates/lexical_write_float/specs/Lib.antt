@@ -1,0 +1,5 @@
+pub mod Value
+pub mod Limit
+pub mod Text
+pub mod Write
+pub mod Examples

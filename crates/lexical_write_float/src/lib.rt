@@ -1,0 +1,4 @@
+// Writing a float's text.
+pub mod layout;
+
+pub use layout::Layout;
