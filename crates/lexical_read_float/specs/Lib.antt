@@ -1,1 +1,5 @@
+pub mod Shape
+pub mod Parse
 pub mod Round
+pub mod Read
+pub mod Examples

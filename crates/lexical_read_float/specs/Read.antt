@@ -1,0 +1,80 @@
+-- What a call to read a float answers: document 01, "Reader" and "Read a float". Both widths by the format. Definitions only.
+use Prim.Native.Nat.{ℕ, _+_, _-_, _*_, _^_}
+use mathlib.Core.Bool.{Bool, true, false, cond}
+use mathlib.Core.List.{List, [], _∷_, _++_}
+use lib.Dec.{ltb}
+use lib.ListN.{length}
+use lib.Ieee.{Float, Format, round}
+use Rattle.lexical_util.specs.Answer.{Answer, done, refused, andThen, checked}
+use Rattle.lexical_util.specs.Digit.{digitsValue}
+use Rattle.lexical_format.specs.declared.format.Pair.{Pair}
+use Rattle.lexical_format.specs.declared.format.NumberFormat.{NumberFormat}
+use Rattle.lexical_format.specs.declared.options.Options.{Options}
+use Rattle.lexical_format.specs.Format.{readingFormat}
+use Rattle.lexical_read_float.specs.declared.read.ReadF64.{ReadF64}
+use Rattle.lexical_read_float.specs.declared.read.ReadF64.the-variants.{Float as Float64, Refused as Refused64}
+use Rattle.lexical_read_float.specs.declared.read.ReadF32.{ReadF32}
+use Rattle.lexical_read_float.specs.declared.read.ReadF32.the-variants.{Float as Float32, Refused as Refused32}
+use Rattle.lexical_read_float.specs.Shape.{Grammar, Sign, unsigned, plus, minus, Tail, absent, exponent, Shape}
+use Rattle.lexical_read_float.specs.Parse.{shapeOf}
+use Rattle.lexical_read_float.specs.Round.{tooLarge}
+
+abbrev pub grammarOf : NumberFormat → Options → Grammar
+grammarOf F o = record { radix = F .«mantissa_radix»; power = F .«exponent_radix»; point = o .«decimal_point»; mark = o .exponent }
+
+-- ---- the value: the digits before and after the point, read in the radix, times base to the signed exponent, read in exponent radix, 0 if absent
+abbrev pub magnitude : ℕ → Tail → ℕ
+magnitude power absent = 0
+magnitude power (exponent s ds) = digitsValue power ds
+
+abbrev pub isNegative : Tail → Bool
+isNegative absent = false
+isNegative (exponent unsigned ds) = false
+isNegative (exponent plus ds) = false
+isNegative (exponent minus ds) = true
+
+-- It is the fraction numerator / denominator. The radix is 2 ^ b, so each digit behind the point divides by 2 ^ b; the base is 2 ^ c.
+module _ (row : Pair) (power : ℕ) (s : Shape) where
+  abbrev pub basePower : ℕ
+  basePower = 2 ^ (row .c * magnitude power (s .tail))
+
+  unfoldable pub numerator : ℕ
+  numerator = digitsValue (2 ^ row .b) (s .whole ++ s .fraction) * cond (isNegative (s .tail)) 1 basePower
+
+  unfoldable pub denominator : ℕ
+  denominator = 2 ^ (row .b * length (s .fraction)) * cond (isNegative (s .tail)) basePower 1
+
+-- ---- the answer
+-- 11 too large; else the nearest float, ties to even, small values to denormals or zero
+unfoldable pub floatOf : Format → ℕ → ℕ → Answer Float
+floatOf f num den = checked ((11, tooLarge f num den) ∷ []) (done (round f false num den))
+
+-- exponent digits stand at the end of a text
+abbrev pub exponentLength : Tail → ℕ
+exponentLength absent = 0
+exponentLength (exponent s ds) = length ds
+
+-- 10 exponent magnitude above 32,767, place its first digit
+unfoldable pub valueOf : Format → Pair → ℕ → List ℕ → Shape → Answer Float
+valueOf f row power t s =
+    elim (ltb 32767 (magnitude power (s .tail))) [
+      | true ↦ refused 10 (length t - exponentLength (s .tail))
+      | false ↦ floatOf f (numerator row power s) (denominator row power s)
+    ]
+
+-- 12 text above 4,096 bytes; 9 wrong shape
+unfoldable pub readText : Format → Grammar → List ℕ → Pair → Answer Float
+readText f G t row = checked ((12, ltb 4096 (length t)) ∷ []) (andThen (shapeOf G t) (valueOf f row (G .power) t))
+
+-- 1, 2, 3
+unfoldable pub readFloat : Format → NumberFormat → Options → List ℕ → Answer Float
+readFloat f F o t = andThen (readingFormat F o) (readText f (grammarOf F o) t)
+
+-- ---- document 01's number and values for each case of the answers
+abbrev pub ofReadF64 : ReadF64 → Answer Float
+ofReadF64 (Float64 x) = done x
+ofReadF64 (Refused64 r) = refused (r .number) (r .place)
+
+abbrev pub ofReadF32 : ReadF32 → Answer Float
+ofReadF32 (Float32 x) = done x
+ofReadF32 (Refused32 r) = refused (r .number) (r .place)
