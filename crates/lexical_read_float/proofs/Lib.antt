@@ -1,1 +1,3 @@
+pub mod RunLaws
+pub mod ParseLaws
 pub mod Worked

@@ -1,0 +1,88 @@
+-- What is printed is read back as the same shape. Assumes nothing.
+use Prim.Native.Nat.{ℕ, suc, _+_, _≤_, _<_}
+use mathlib.Core.Path.{_≡_, refl, sym, ap, _∙_}
+use mathlib.Core.Bool.{Bool, true, false, cond}
+use mathlib.Core.List.{List, [], _∷_, _++_, map, append-assoc}
+use mathlib.Core.Option.{Option, none, some}
+use native.Mathlib.Omega.{arith}
+use native.Mathlib.Nat.{lt-of-lt-of-le}
+use borrow.Author.Tests.{eq-eqb, ne-eqb, ltb-true, ltb-false}
+use lib.Dec.{ltb, eqb}
+use Rattle.lexical_util.specs.Digit.{digitByte, digitIn}
+use Rattle.lexical_util.proofs.DigitLaws.{byte-figure, byte-capital}
+use Rattle.lexical_read_float.specs.Shape.{Grammar, Sign, unsigned, plus, minus, Tail, absent, exponent, Shape, signBytes, tailBytes, fractionBytes, print, AreDigits, Some, TailFits, FractionFits, WellFormed}
+use Rattle.lexical_read_float.specs.Parse.{Run, run, Parsed, found, stuck, mapParsed, allDigits, exponentDigits, signedExponent, parseTail, withTail, afterPoint, afterWhole, oneOrMore, parse}
+use Rattle.lexical_read_float.proofs.RunLaws.{Ends, run-digits, run-all}
+
+-- what check 3 and the checks of the radices give: point and mark are no digits of the radix, and differ
+pub record Apart (G : Grammar) : Type 0 where
+  pub radix-pos : 0 < G .radix
+  pub radix-small : G .radix ≤ 32
+  pub power-pos : 0 < G .power
+  pub power-small : G .power ≤ 32
+  pub point-off : digitIn (G .radix) (G .point) ≡ none
+  pub mark-off : digitIn (G .radix) (G .mark) ≡ none
+  pub differ : eqb (G .mark) (G .point) ≡ false
+
+-- a digit's byte is no sign
+byte-no-sign : (d : ℕ) → d < 32 → (eqb (digitByte d) 43 ≡ false) × (eqb (digitByte d) 45 ≡ false)
+byte-no-sign d h = go (ltb d 10) refl
+  where
+    go : (b : Bool) → ltb d 10 ≡ b → (eqb (digitByte d) 43 ≡ false) × (eqb (digitByte d) 45 ≡ false)
+    go true e = rw (byte-figure d (ltb-true d 10 e)) (ne-eqb (48 + d) 43 (λ z. omega arith), ne-eqb (48 + d) 45 (λ z. omega arith))
+    go false e = rw (byte-capital d (ltb-false d 10 e)) (ne-eqb (55 + d) 43 (λ z. omega arith), ne-eqb (55 + d) 45 (λ z. omega arith))
+
+-- a byte that is no sign begins the exponent's digits
+pub no-sign : (power x : ℕ) (xs : List ℕ) → eqb x 43 ≡ false → eqb x 45 ≡ false → signedExponent power (x ∷ xs) ≡ exponentDigits power unsigned (x ∷ xs)
+unfolding signedExponent
+no-sign power x xs p q = rw (p, q)
+
+module _ (G : Grammar) (A : Apart G) where
+  all-digits : (s : Sign) (ds : List ℕ) → Some ds → AreDigits (G .power) ds → exponentDigits (G .power) s (map digitByte ds) ≡ found (exponent s ds)
+  all-digits s [] n all = absurd n
+  all-digits s (d ∷ ds) n all = ap (λ (r : Run). allDigits s (r .got) (r .left)) (run-all (G .power) (d ∷ ds) (A .power-small) all)
+
+  signed-back : (s : Sign) (ds : List ℕ) → Some ds → AreDigits (G .power) ds → signedExponent (G .power) (signBytes s ++ map digitByte ds) ≡ found (exponent s ds)
+  signed-back unsigned [] n all = absurd n
+  signed-back unsigned (d ∷ ds) n all =
+      let k = byte-no-sign d (lt-of-lt-of-le (all .0) (A .power-small)) in
+      no-sign (G .power) (digitByte d) (map digitByte ds) (k .0) (k .1) ∙ all-digits unsigned (d ∷ ds) tt all
+  signed-back plus ds n all = unfold signedExponent in all-digits plus ds n all
+  signed-back minus ds n all = unfold signedExponent in all-digits minus ds n all
+
+  pub tail-back : (τ : Tail) → TailFits (G .power) τ → parseTail G (tailBytes G τ) ≡ found τ
+  unfolding parseTail
+  tail-back absent h = refl
+  tail-back (exponent s ds) h = rw (eq-eqb (G .mark) (G .mark) refl) (signed-back s ds (h .0) (h .1))
+
+  pub ends-tail : (τ : Tail) → Ends (G .radix) (tailBytes G τ)
+  ends-tail absent = tt
+  ends-tail (exponent s ds) = A .mark-off
+
+  -- what follows the digits in front: nothing, the mark, or the point
+  pub no-point : (whole : List ℕ) (τ : Tail) → afterWhole G whole (tailBytes G τ) ≡ mapParsed (withTail whole false []) (parseTail G (tailBytes G τ))
+  unfolding afterWhole parseTail
+  no-point whole absent = refl
+  no-point whole (exponent s ds) = rw (A .differ)
+
+  fraction-back : (whole : List ℕ) (dot : Bool) (ds : List ℕ) (τ : Tail) → FractionFits dot ds → AreDigits (G .radix) ds → TailFits (G .power) τ
+      → afterWhole G whole (fractionBytes G dot ds ++ tailBytes G τ) ≡ found (withTail whole dot ds τ)
+  fraction-back whole true ds τ fits all h =
+      unfold afterWhole in
+      rw (eq-eqb (G .point) (G .point) refl, run-digits (G .radix) ds (tailBytes G τ) (A .radix-small) all (ends-tail τ), tail-back τ h)
+  fraction-back whole false ds τ fits all h = rw fits (no-point whole τ ∙ ap (mapParsed (withTail whole false [])) (tail-back τ h))
+
+  ends-fraction : (dot : Bool) (ds : List ℕ) (τ : Tail) → Ends (G .radix) (fractionBytes G dot ds ++ tailBytes G τ)
+  ends-fraction true ds τ = A .point-off
+  ends-fraction false ds τ = ends-tail τ
+
+  pub parse-print : (s : Shape) → WellFormed G s → parse G (print G s) ≡ found s
+  unfolding parse print
+  parse-print s w =
+      rw (run-digits (G .radix) (s .whole) (fractionBytes G (s .dot) (s .fraction) ++ tailBytes G (s .tail)) (A .radix-small) (w .whole-digits) (ends-fraction (s .dot) (s .fraction) (s .tail)))
+      (one-or-more (s .whole) _ (w .some-whole)
+      ∙ fraction-back (s .whole) (s .dot) (s .fraction) (s .tail) (w .fraction-fits) (w .fraction-digits) (w .tail-fits))
+    where
+      one-or-more : (ds left : List ℕ) → Some ds → oneOrMore G ds left ≡ afterWhole G ds left
+      one-or-more [] left n = absurd n
+      one-or-more (d ∷ ds) left n = refl
