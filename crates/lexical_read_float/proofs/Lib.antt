@@ -1,3 +1,4 @@
 pub mod RunLaws
 pub mod ParseLaws
+pub mod PlaceLaws
 pub mod Worked

@@ -25,7 +25,7 @@ pub record Apart (G : Grammar) : Type 0 where
   pub differ : eqb (G .mark) (G .point) ≡ false
 
 -- a digit's byte is no sign
-byte-no-sign : (d : ℕ) → d < 32 → (eqb (digitByte d) 43 ≡ false) × (eqb (digitByte d) 45 ≡ false)
+pub byte-no-sign : (d : ℕ) → d < 32 → (eqb (digitByte d) 43 ≡ false) × (eqb (digitByte d) 45 ≡ false)
 byte-no-sign d h = go (ltb d 10) refl
   where
     go : (b : Bool) → ltb d 10 ≡ b → (eqb (digitByte d) 43 ≡ false) × (eqb (digitByte d) 45 ≡ false)

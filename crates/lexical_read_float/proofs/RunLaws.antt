@@ -8,10 +8,14 @@ use Rattle.lexical_util.proofs.DigitLaws.{digit-in, in-digit}
 use Rattle.lexical_read_float.specs.Shape.{AreDigits}
 use Rattle.lexical_read_float.specs.Parse.{Run, more, run}
 
+-- a text's first byte, where it has one
+abbrev pub Head : (ℕ → Type 0) → List ℕ → Type 0
+Head First [] = Unit {0}
+Head First (x ∷ xs) = First x
+
 -- a text that begins with no digit
 abbrev pub Ends : ℕ → List ℕ → Type 0
-Ends radix [] = Unit {0}
-Ends radix (x ∷ xs) = digitIn radix x ≡ none
+Ends radix t = Head (λ x. digitIn radix x ≡ none) t
 
 pub run-stops : (radix x : ℕ) (xs : List ℕ) → digitIn radix x ≡ none → run radix (x ∷ xs) ≡ record { got = []; left = x ∷ xs }
 unfolding run
