@@ -1,4 +1,11 @@
 pub mod RunLaws
 pub mod ParseLaws
 pub mod PlaceLaws
+pub mod Closest
+pub mod Rounded
+pub mod Value
+pub mod LastBit
+pub mod Largest
+pub mod NearestLaws
+pub mod ReadLaws
 pub mod Worked

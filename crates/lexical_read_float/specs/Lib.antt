@@ -2,4 +2,5 @@ pub mod Shape
 pub mod Parse
 pub mod Round
 pub mod Read
+pub mod Claims
 pub mod Examples

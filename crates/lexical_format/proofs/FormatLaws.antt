@@ -1,0 +1,184 @@
+-- What is known of a format that passed its check. Assumes nothing.
+use Prim.Native.Nat.{ℕ, zero, suc, _+_, _*_, _/_, _%_, _^_, _≤_, _<_}
+use mathlib.Core.Path.{_≡_, refl, sym, ap, _∙_, subst}
+use mathlib.Core.Bool.{Bool, true, false, not, cond, _&&_, _||_}
+use mathlib.Core.List.{List, [], _∷_, _++_}
+use mathlib.Core.Option.{Option, none, some}
+use native.Mathlib.Omega.{arith}
+use borrow.Author.Tests.{eqb-true, ltb-true, ltb-false, leb-true}
+use lib.Dec.{T, ltb, leb, eqb, eqb→eq, ltb→lt, leb→le}
+use lib.Ieee.Fits.{and-l, and-r}
+use lib.Ieee.Bits.{is-true}
+use Rattle.lexical_util.specs.Answer.{Answer, done, refused, Check, checked}
+use Rattle.lexical_util.specs.Digit.{digitIn, isSome, isDigit, isRadix}
+use Rattle.lexical_format.specs.declared.format.Pair.{Pair}
+use Rattle.lexical_format.specs.declared.format.NumberFormat.{NumberFormat}
+use Rattle.lexical_format.specs.declared.options.Options.{Options}
+use Rattle.lexical_format.specs.Format.{pairs, findPair, pairOf, badByte, badBytes, badCounts, badBreaks, readingChecks, writingChecks, checkedPair, readingFormat, writingFormat}
+
+-- ---- the table of pairs: the radix is 2 ^ b, the base 2 ^ c, and c divides b
+pub record IsPair (p : Pair) : Type 0 where
+  pub radix-is : p .radix ≡ 2 ^ p .b
+  pub base-is : p .base ≡ 2 ^ p .c
+  pub some-bits : 0 < p .b
+  pub few-bits : p .b ≤ 5
+  pub base-bits : 0 < p .c
+  pub whole : p .b / p .c * p .c ≡ p .b
+
+abbrev test : Pair → Bool
+test p = eqb (p .radix) (2 ^ p .b) && eqb (p .base) (2 ^ p .c) && ltb 0 (p .b) && leb (p .b) 5 && ltb 0 (p .c) && eqb (p .b / p .c * p .c) (p .b)
+
+tested : (p : Pair) → T (test p) → IsPair p
+tested p t =
+    let A = eqb (p .radix) (2 ^ p .b) in
+    let B = eqb (p .base) (2 ^ p .c) in
+    let C = ltb 0 (p .b) in
+    let D = leb (p .b) 5 in
+    let E = ltb 0 (p .c) in
+    let F = eqb (p .b / p .c * p .c) (p .b) in
+    let t5 = and-l (A && B && C && D && E) F t in
+    let t4 = and-l (A && B && C && D) E t5 in
+    let t3 = and-l (A && B && C) D t4 in
+    let t2 = and-l (A && B) C t3 in
+    record {
+      radix-is = eqb→eq (p .radix) (2 ^ p .b) (and-l A B t2);
+      base-is = eqb→eq (p .base) (2 ^ p .c) (and-r A B t2);
+      some-bits = ltb→lt 0 (p .b) (and-r (A && B) C t3);
+      few-bits = leb→le (p .b) 5 (and-r (A && B && C) D t4);
+      base-bits = ltb→lt 0 (p .c) (and-r (A && B && C && D) E t5);
+      whole = eqb→eq (p .b / p .c * p .c) (p .b) (and-r (A && B && C && D && E) F t);
+    }
+
+abbrev AllTested : List Pair → Type 0
+AllTested [] = Unit {0}
+AllTested (p ∷ ps) = T (test p) × AllTested ps
+
+all-tested : AllTested pairs
+unfolding pairs
+all-tested = (tt, (tt, (tt, (tt, (tt, (tt, (tt, (tt, (tt, (tt, tt))))))))))
+
+none-some : {A : Type 0} (a : A) → none ≡ some a → ⊥
+none-some a e = let z : _≡_ {A = ℕ} 0 1 = cc in omega arith
+
+-- the row found is one of them, and has the radix and the base asked for
+found-row : (radix base : ℕ) (ps : List Pair) (row : Pair) → AllTested ps → findPair radix base ps ≡ some row → IsPair row × (row .radix ≡ radix) × (row .base ≡ base)
+unfolding findPair
+found-row radix base [] row all e = absurd (none-some row e)
+found-row radix base (p ∷ ps) row all e = go (eqb (p .radix) radix) refl (eqb (p .base) base) refl (found-row radix base ps row (all .1)) e
+  where
+    go : (a : Bool) → eqb (p .radix) radix ≡ a → (b : Bool) → eqb (p .base) base ≡ b → (findPair radix base ps ≡ some row → IsPair row × (row .radix ≡ radix) × (row .base ≡ base))
+        → cond (a && b) (some p) (findPair radix base ps) ≡ some row → IsPair row × (row .radix ≡ radix) × (row .base ≡ base)
+    go true q true r more e =
+        let same : p ≡ row = cc in
+        subst (λ (x : Pair). IsPair x × (x .radix ≡ radix) × (x .base ≡ base)) same (tested p (all .0), eqb-true (p .radix) radix q, eqb-true (p .base) base r)
+    go true q false r more e = more e
+    go false q b r more e = more e
+
+refused-done : {A : Type 0} (n p : ℕ) (a : A) → refused n p ≡ done a → ⊥
+refused-done n p a e = let z : _≡_ {A = ℕ} 0 1 = cc in omega arith
+
+-- ---- what passes a list of checks passed each
+abbrev pub Passed : List Check → Type 0
+Passed [] = Unit {0}
+Passed (c ∷ cs) = (c .1 ≡ false) × Passed cs
+
+pub passed : {A : Type 0} (cs : List Check) (a b : A) → checked cs (done a) ≡ done b → Passed cs × (a ≡ b)
+passed [] a b e = (tt, let same : a ≡ b = cc in same)
+passed (c ∷ cs) a b e = go (c .1) refl (passed cs a b) e
+  where
+    go : (t : Bool) → c .1 ≡ t → (checked cs (done a) ≡ done b → Passed cs × (a ≡ b)) → cond t (refused (c .0) 0) (checked cs (done a)) ≡ done b → Passed (c ∷ cs) × (a ≡ b)
+    go true p more q = absurd (refused-done (c .0) 0 b q)
+    go false p more q = let k = more q in ((p, k .0), k .1)
+
+-- ---- a format that the reader takes
+pub record Readable (F : NumberFormat) (o : Options) (row : Pair) : Type 0 where
+  pub pair : IsPair row
+  pub radix-is : F .«mantissa_radix» ≡ 2 ^ row .b
+  pub power : isRadix (F .«exponent_radix») ≡ true
+  pub point-off : isDigit (F .«mantissa_radix») (o .«decimal_point») ≡ false
+  pub mark-off : isDigit (F .«mantissa_radix») (o .exponent) ≡ false
+  pub differ : eqb (o .«decimal_point») (o .exponent) ≡ false
+
+not-false : (b : Bool) → not b ≡ false → b ≡ true
+not-false true e = refl
+not-false false e = sym e
+
+or-false : (a b : Bool) → (a || b) ≡ false → (a ≡ false) × (b ≡ false)
+or-false true b e = (e, absurd (let z : _≡_ {A = ℕ} 0 1 = cc in omega arith))
+or-false false b e = (refl, e)
+
+byte-off : (radix x : ℕ) → badByte radix x ≡ false → isDigit radix x ≡ false
+unfolding badByte
+byte-off radix x e =
+    let a = or-false (ltb x 33) _ e in
+    let b = or-false (ltb 126 x) _ (a .1) in
+    let c = or-false (eqb x 43) _ (b .1) in
+    or-false (eqb x 45) _ (c .1) .1
+
+with-row : (F : NumberFormat) (o : Options) (found row : Pair) (more : List Check) → pairOf F ≡ some found → checked (readingChecks F o ++ more) (done found) ≡ done row → Readable F o row × Passed more
+unfolding pairOf badBytes
+with-row F o found row more q e =
+    let k = passed (readingChecks F o ++ more) found row e in
+    let r = found-row (F .«mantissa_radix») (F .«exponent_base») pairs row all-tested (q ∙ ap some (k .1)) in
+    let a = or-false (badByte (F .«mantissa_radix») (o .«decimal_point»)) _ (k .0 .1 .0) in
+    let b = or-false (badByte (F .«mantissa_radix») (o .exponent)) _ (a .1) in (
+      record {
+        pair = r .0;
+        radix-is = sym (r .1) ∙ r .0 .radix-is;
+        power = not-false (isRadix (F .«exponent_radix»)) (k .0 .0);
+        point-off = byte-off (F .«mantissa_radix») (o .«decimal_point») (a .0);
+        mark-off = byte-off (F .«mantissa_radix») (o .exponent) (b .0);
+        differ = b .1;
+      },
+      k .0 .1 .1,
+    )
+
+pub readable : (F : NumberFormat) (o : Options) (row : Pair) → readingFormat F o ≡ done row → Readable F o row
+unfolding readingFormat
+readable F o row e = go (pairOf F) refl e
+  where
+    go : (p : Option Pair) → pairOf F ≡ p → checkedPair (readingChecks F o) p ≡ done row → Readable F o row
+    go none q e = absurd (refused-done 1 0 row e)
+    go (some found) q e = with-row F o found row [] q e .0
+
+-- ---- a format that the writer admits
+pub record Writable (F : NumberFormat) (o : Options) (row : Pair) : Type 0 where
+  pub reads : Readable F o row
+  pub least : o .«min_significant_digits» ≤ 1200
+  pub most : o .«max_significant_digits» ≤ 1200
+  pub breaks : badBreaks o ≡ false
+
+pub writable : (F : NumberFormat) (o : Options) (row : Pair) → writingFormat F o ≡ done row → Writable F o row
+unfolding writingFormat badCounts
+writable F o row e = go (pairOf F) refl e
+  where
+    go : (p : Option Pair) → pairOf F ≡ p → checkedPair (readingChecks F o ++ writingChecks F o) p ≡ done row → Writable F o row
+    go none q e = absurd (refused-done 1 0 row e)
+    go (some found) q e =
+        let k = with-row F o found row (writingChecks F o) q e in
+        let a = or-false (ltb 1200 (o .«min_significant_digits»)) _ (k .1 .1 .0) in
+        let b = or-false (ltb 1200 (o .«max_significant_digits»)) _ (a .1) in
+        record {
+          reads = k .0;
+          least = ltb-false 1200 (o .«min_significant_digits») (a .0);
+          most = ltb-false 1200 (o .«max_significant_digits») (b .0);
+          breaks = k .1 .1 .1 .0;
+        }
+
+-- what the writer admits, the reader takes, with the same row
+pub writable-reads : (F : NumberFormat) (o : Options) (row : Pair) → writingFormat F o ≡ done row → readingFormat F o ≡ done row
+unfolding writingFormat readingFormat
+writable-reads F o row e = go (pairOf F) e
+  where
+    fewer : (cs more : List Check) (a : Pair) → checked (cs ++ more) (done a) ≡ done row → checked cs (done a) ≡ done row
+    fewer [] more a e = ap done (passed more a row e .1)
+    fewer (c ∷ cs) more a e = at (c .1) (fewer cs more a) e
+      where
+        at : (t : Bool) → (checked (cs ++ more) (done a) ≡ done row → checked cs (done a) ≡ done row) → cond t (refused (c .0) 0) (checked (cs ++ more) (done a)) ≡ done row
+            → cond t (refused (c .0) 0) (checked cs (done a)) ≡ done row
+        at true k q = q
+        at false k q = k q
+
+    go : (p : Option Pair) → checkedPair (readingChecks F o ++ writingChecks F o) p ≡ done row → checkedPair (readingChecks F o) p ≡ done row
+    go none e = e
+    go (some found) e = fewer (readingChecks F o) (writingChecks F o) found e

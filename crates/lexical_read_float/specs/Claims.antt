@@ -1,0 +1,42 @@
+-- What the laws of reading say, of every format that passes the reader's checks 1, 2, 3. Statements only; `ReadLaws` proves them.
+use Prim.Native.Nat.{ℕ}
+use mathlib.Core.Path.{_≡_}
+use mathlib.Core.Bool.{false}
+use mathlib.Core.List.{List}
+use lib.Ieee.{Float, Format}
+use Rattle.lexical_util.specs.Answer.{Answer, done, refused}
+use Rattle.lexical_format.specs.declared.format.Pair.{Pair}
+use Rattle.lexical_format.specs.declared.format.NumberFormat.{NumberFormat}
+use Rattle.lexical_format.specs.declared.options.Options.{Options}
+use Rattle.lexical_format.specs.Format.{readingFormat}
+use Rattle.lexical_read_float.specs.Shape.{Shape, WellFormed, print}
+use Rattle.lexical_read_float.specs.Parse.{shapeOf, WrongAt}
+use Rattle.lexical_read_float.specs.Round.{Nearest}
+use Rattle.lexical_read_float.specs.Read.{grammarOf, numerator, denominator, readFloat}
+
+-- what is printed is read back as the same shape
+abbrev pub PrintedIsRead : Type 0
+PrintedIsRead = (F : NumberFormat) (o : Options) (row : Pair) (s : Shape) → readingFormat F o ≡ done row → WellFormed (grammarOf F o) s → shapeOf (grammarOf F o) (print (grammarOf F o) s) ≡ done s
+
+-- a shape is found only where it is printed so
+abbrev pub FoundIsPrinted : Type 0
+FoundIsPrinted =
+    (F : NumberFormat) (o : Options) (row : Pair) (t : List ℕ) (s : Shape) → readingFormat F o ≡ done row → shapeOf (grammarOf F o) t ≡ done s
+    → WellFormed (grammarOf F o) s × (print (grammarOf F o) s ≡ t)
+
+-- else it is refusal 9, and its place the least at which no well-shaped text begins so
+abbrev pub PlaceIsLeast : Type 0
+PlaceIsLeast =
+    (F : NumberFormat) (o : Options) (row : Pair) (t : List ℕ) (number place : ℕ) → readingFormat F o ≡ done row → shapeOf (grammarOf F o) t ≡ refused number place
+    → (number ≡ 9) × WrongAt (grammarOf F o) t place
+
+-- the float read is the nearest to the text's value, the even one of two
+pub record NearestToText (f : Format) (F : NumberFormat) (o : Options) (t : List ℕ) (x : Float) : Type 0 where
+  pub row : Pair
+  pub shape : Shape
+  pub admitted : readingFormat F o ≡ done row
+  pub shaped : shapeOf (grammarOf F o) t ≡ done shape
+  pub nearest : Nearest f false (numerator row (F .«exponent_radix») shape) (denominator row (F .«exponent_radix») shape) x
+
+abbrev pub ReadIsNearest : Type 0
+ReadIsNearest = (f : Format) (F : NumberFormat) (o : Options) (t : List ℕ) (x : Float) → readFloat f F o t ≡ done x → NearestToText f F o t x
