@@ -1,1 +1,3 @@
+pub mod Integers
+pub mod ValueLaws
 pub mod Starred
