@@ -1,3 +1,4 @@
 pub mod Integers
 pub mod ValueLaws
+pub mod RangeLaws
 pub mod Starred
