@@ -1,4 +1,6 @@
 pub mod Integers
 pub mod ValueLaws
 pub mod RangeLaws
+pub mod LengthLaws
+pub mod WriteLaws
 pub mod Starred

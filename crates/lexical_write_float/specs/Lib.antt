@@ -2,4 +2,5 @@ pub mod Value
 pub mod Limit
 pub mod Text
 pub mod Write
+pub mod Claims
 pub mod Examples

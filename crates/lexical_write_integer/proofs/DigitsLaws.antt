@@ -3,12 +3,13 @@ use Prim.Native.Nat.{ℕ, zero, suc, _+_, _-_, _*_, _/_, _%_, _^_, _≤_, _<_}
 use mathlib.Core.Path.{_≡_, refl, sym, ap, _∙_}
 use mathlib.Core.Bool.{Bool, true, false}
 use mathlib.Core.List.{List, [], _∷_, _++_, map}
-use native.Mathlib.Nat.{div-lt-self, div-add-mod', mod-lt, zero-mul, zero-add, one-mul, mul-zero, mul-suc, mul-comm, pow-suc, pow-zero, div-lt-iff-lt-mul, le-div-iff-mul-le, pow-le-pow-right, lt-of-lt-of-le, le-trans, le-antisymm, div-mul-le-self, lt-div-mul-add}
+use native.Mathlib.Nat.{div-lt-self, div-add-mod', mod-lt, zero-mul, zero-add, one-mul, mul-zero, mul-suc, mul-comm, pow-suc, pow-zero, div-lt-iff-lt-mul, le-div-iff-mul-le, pow-le-pow-right, lt-of-lt-of-le, le-trans, le-antisymm, div-mul-le-self, lt-div-mul-add, mod-eq-of-lt}
 use native.Mathlib.Omega.{arith}
 use borrow.Author.Tests.{lt-ltb, le-ltb, ltb-true, ltb-false, leb-true, leb-false}
 use lib.Dec.{ltb, leb}
 use lib.ListN.{length, getD, length-append, length-map, List·getD-append}
 use lib.Pow.{pow-add, pow-mono}
+use lib.Seq.{getD-at}
 use lib.Ieee.{size}
 use lib.Ieee.Digits.{size-lt, size-reaches}
 use Rattle.lexical_util.specs.Digit.{digitByte, readOn, digitsValue}
@@ -178,3 +179,14 @@ numeral-ge r x hr h = ap (map digitByte) (digits-ge r x hr h) ∙ map-append dig
 pub length-numeral : (r x : ℕ) → length (numeral r x) ≡ length (digits r x)
 unfolding numeral
 length-numeral r x = length-map (digits r x) digitByte
+
+-- the last byte is the remainder's
+pub last-byte : (r x d : ℕ) → 1 < r → getD (numeral r x) (length (numeral r x) - 1) d ≡ digitByte (x % r)
+last-byte r x d hr = go (ltb x r) refl
+  where
+    go : (b : Bool) → ltb x r ≡ b → getD (numeral r x) (length (numeral r x) - 1) d ≡ digitByte (x % r)
+    go true e = let h = ltb-true x r e in rw (numeral-lt r x h, mod-eq-of-lt {n = x} {m = r} h)
+    go false e =
+        let h = ltb-false x r e in
+        let n : length (numeral r (x / r)) ≡ length (numeral r x) - 1 = omega (arith, length-numeral r x, length-numeral r (x / r), count-ge r x hr h) in
+        rw (← n, numeral-ge r x hr h) (getD-at (numeral r (x / r)) (digitByte (x % r)) [] d (length (numeral r (x / r))) refl)
