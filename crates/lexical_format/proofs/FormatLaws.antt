@@ -10,7 +10,8 @@ use lib.Dec.{T, ltb, leb, eqb, eqb→eq, ltb→lt, leb→le}
 use lib.Ieee.Fits.{and-l, and-r}
 use lib.Ieee.Bits.{is-true}
 use Rattle.lexical_util.specs.Answer.{Answer, done, refused, Check, checked}
-use Rattle.lexical_util.specs.Digit.{digitIn, isSome, isDigit, isRadix}
+use Rattle.lexical_util.specs.Digit.{isDigit, isRadix}
+use Rattle.lexical_util.proofs.AnswerLaws.{refused-done, Passed, passed}
 use Rattle.lexical_format.specs.declared.format.Pair.{Pair}
 use Rattle.lexical_format.specs.declared.format.NumberFormat.{NumberFormat}
 use Rattle.lexical_format.specs.declared.options.Options.{Options}
@@ -73,22 +74,6 @@ found-row radix base (p ∷ ps) row all e = go (eqb (p .radix) radix) refl (eqb 
         subst (λ (x : Pair). IsPair x × (x .radix ≡ radix) × (x .base ≡ base)) same (tested p (all .0), eqb-true (p .radix) radix q, eqb-true (p .base) base r)
     go true q false r more e = more e
     go false q b r more e = more e
-
-refused-done : {A : Type 0} (n p : ℕ) (a : A) → refused n p ≡ done a → ⊥
-refused-done n p a e = let z : _≡_ {A = ℕ} 0 1 = cc in omega arith
-
--- ---- what passes a list of checks passed each
-abbrev pub Passed : List Check → Type 0
-Passed [] = Unit {0}
-Passed (c ∷ cs) = (c .1 ≡ false) × Passed cs
-
-pub passed : {A : Type 0} (cs : List Check) (a b : A) → checked cs (done a) ≡ done b → Passed cs × (a ≡ b)
-passed [] a b e = (tt, let same : a ≡ b = cc in same)
-passed (c ∷ cs) a b e = go (c .1) refl (passed cs a b) e
-  where
-    go : (t : Bool) → c .1 ≡ t → (checked cs (done a) ≡ done b → Passed cs × (a ≡ b)) → cond t (refused (c .0) 0) (checked cs (done a)) ≡ done b → Passed (c ∷ cs) × (a ≡ b)
-    go true p more q = absurd (refused-done (c .0) 0 b q)
-    go false p more q = let k = more q in ((p, k .0), k .1)
 
 -- ---- a format that the reader takes
 pub record Readable (F : NumberFormat) (o : Options) (row : Pair) : Type 0 where

@@ -13,6 +13,7 @@ use lib.ListN.{length}
 use lib.Ieee.{Float, Format, round}
 use Rattle.lexical_util.specs.Answer.{Answer, done, refused, andThen}
 use Rattle.lexical_util.specs.Digit.{digitIn, isSome, isDigit}
+use Rattle.lexical_util.proofs.AnswerLaws.{refused-done}
 use Rattle.lexical_util.proofs.RadixLaws.{radix-bounds}
 use Rattle.lexical_format.specs.declared.format.Pair.{Pair}
 use Rattle.lexical_format.specs.declared.format.NumberFormat.{NumberFormat}
@@ -54,9 +55,6 @@ apart F o row e =
 pub printed-is-read : PrintedIsRead
 unfolding shapeOf
 printed-is-read F o row s e w = ap (ofParsed (print (grammarOf F o) s)) (parse-print (grammarOf F o) (apart F o row e) s w)
-
-refused-done : {A : Type 0} (n p : ℕ) (a : A) → refused n p ≡ done a → ⊥
-refused-done n p a e = let z : _≡_ {A = ℕ} 0 1 = cc in omega arith
 
 pub found-is-printed : FoundIsPrinted
 unfolding shapeOf

@@ -1,5 +1,5 @@
 -- The laws of writing: what document 01 says of D and of a text's length. Assumes nothing.
-use Prim.Native.Nat.{ℕ, zero, suc, _+_, _-_, _*_, _/_, _%_, _^_, _≤_, _<_}
+use Prim.Native.Nat.{ℕ, zero, suc, _+_, _-_, _*_, _/_, _%_, _^_, _≤_, _<_, zero-le}
 use mathlib.Core.Path.{_≡_, refl, sym, ap, _∙_, subst}
 use mathlib.Core.Bool.{Bool, true, false}
 use mathlib.Core.List.{List, [], _∷_, _++_, map}
@@ -8,10 +8,12 @@ use native.Mathlib.Nat.{zero-lt-suc}
 use borrow.Author.Tests.{ltb-true, ltb-false}
 use lib.Dec.{T, ltb}
 use lib.IntN.{ℤ, pos}
+use lib.Pow.{pow-pos}
 use lib.ListN.{length, getD, List·getD-map}
 use lib.Ieee.{Float, nan, inf, fin, Format, fits}
 use Rattle.lexical_util.specs.Answer.{Answer, done, refused, andThen}
 use Rattle.lexical_util.specs.Digit.{digitByte}
+use Rattle.lexical_util.proofs.AnswerLaws.{refused-done, done-same}
 use Rattle.lexical_util.proofs.DigitLaws.{byte-figure, byte-capital}
 use Rattle.lexical_write_integer.specs.Digits.{digits, numeral}
 use Rattle.lexical_write_integer.proofs.DigitsLaws.{radix-above, last-byte}
@@ -19,8 +21,8 @@ use Rattle.lexical_format.specs.declared.format.Pair.{Pair}
 use Rattle.lexical_format.specs.declared.format.NumberFormat.{NumberFormat}
 use Rattle.lexical_format.specs.declared.options.Options.{Options}
 use Rattle.lexical_format.specs.Format.{writingFormat}
-use Rattle.lexical_format.proofs.FormatLaws.{writable}
-use Rattle.lexical_write_float.specs.Value.{modulo, exactDigits}
+use Rattle.lexical_format.proofs.FormatLaws.{Writable, writable}
+use Rattle.lexical_write_float.specs.Value.{Value, modulo, exactDigits}
 use Rattle.lexical_write_float.specs.Write.{limitedText, floatText, writeText}
 use Rattle.lexical_write_float.specs.Limit.{limited}
 use Rattle.lexical_write_float.specs.Claims.{FirstPlace, FirstDigit, LastDigit, LongestText}
@@ -52,29 +54,31 @@ last-digit b m e B o h =
     let n = m * 2 ^ modulo e b in
     last-is b m e B o (byte-zero (n % 2 ^ b) (sym (last-byte (2 ^ b) n 48 (radix-above b B)) ∙ h))
 
-refused-done : {A : Type 0} (n p : ℕ) (a : A) → refused n p ≡ done a → ⊥
-refused-done n p a e = let z : _≡_ {A = ℕ} 0 1 = cc in omega arith
+-- what is written lies in the range of `RangeLaws`, zero too
+module _ (f : Format) (F : NumberFormat) (o : Options) (row : Pair) (W : Writable F o row) where
+  abbrev limit : ℕ → ℤ → Value
+  limit m e = limited (o .«round_mode») (row .b) (o .«max_significant_digits») m e
+
+  limit-ranged : (m : ℕ) (e : ℤ) → T (fits f (fin false m e)) → Ranged (limit m e .m) (limit m e .e)
+  limit-ranged zero e h = zero-ranged (o .«max_significant_digits»)
+    where
+      zero-ranged : (k : ℕ) → Ranged (limited (o .«round_mode») (row .b) k zero e .m) (limited (o .«round_mode») (row .b) k zero e .e)
+      zero-ranged zero = unfold limited in record { few = pow-pos 54; near = zero-le }
+      zero-ranged (suc k) = unfold limited in record { few = pow-pos 54; near = zero-le }
+  limit-ranged (suc m) e h =
+      limited-ranged (o .«round_mode») (row .b) (o .«max_significant_digits») (suc m) e (W .reads .pair .some-bits) (zero-lt-suc m) (in-range f (suc m) e (zero-lt-suc m) h)
+
+  limited-length : (m : ℕ) (e : ℤ) → T (fits f (fin false m e)) → length (limitedText F o row m e) ≤ 2275
+  unfolding limitedText
+  limited-length m e h = text-length F o row W (limit m e .m) (limit m e .e) (limit-ranged m e h)
 
 pub longest-text : LongestText
-unfolding writeText floatText limitedText
+unfolding writeText floatText
 longest-text f F o x t h e = go (writingFormat F o) refl x h e
   where
-    limited-length : (row : Pair) → writingFormat F o ≡ done row → (m : ℕ) (e : ℤ) → T (fits f (fin false m e)) → length (limitedText F o row m e) ≤ 2275
-    limited-length row w m e h =
-        let W = writable F o row w in
-        text-length F o row W (limited (o .«round_mode») (row .b) (o .«max_significant_digits») m e .m) (limited (o .«round_mode») (row .b) (o .«max_significant_digits») m e .e) (ranged m W h)
-      where
-        ranged : (m : ℕ) → Rattle.lexical_format.proofs.FormatLaws.Writable F o row → T (fits f (fin false m e)) → Ranged (limited (o .«round_mode») (row .b) (o .«max_significant_digits») m e .m) (limited (o .«round_mode») (row .b) (o .«max_significant_digits») m e .e)
-        ranged zero W h = zero-ranged (o .«max_significant_digits»)
-          where
-            zero-ranged : (k : ℕ) → Ranged (limited (o .«round_mode») (row .b) k zero e .m) (limited (o .«round_mode») (row .b) k zero e .e)
-            zero-ranged zero = unfold limited in record { few = lib.Pow.pow-pos 54; near = Prim.Native.Nat.zero-le }
-            zero-ranged (suc k) = unfold limited in record { few = lib.Pow.pow-pos 54; near = Prim.Native.Nat.zero-le }
-        ranged (suc m) W h = limited-ranged (o .«round_mode») (row .b) (o .«max_significant_digits») (suc m) e (W .reads .pair .some-bits) (zero-lt-suc m) (in-range f (suc m) e (zero-lt-suc m) h)
-
     go : (a : Answer Pair) → writingFormat F o ≡ a → (x : Float) → T (fits f x) → andThen a (floatText F o x) ≡ done t → length t ≤ 2275
     go (refused n p) w x h e = absurd (refused-done n p t e)
     go (done row) w nan h e = absurd (refused-done 7 0 t e)
     go (done row) w (inf s) h e = absurd (refused-done 7 0 t e)
     go (done row) w (fin true m d) h e = absurd (refused-done 7 0 t e)
-    go (done row) w (fin false m d) h e = let same : limitedText F o row m d ≡ t = cc in subst (λ (l : List ℕ). length l ≤ 2275) same (limited-length row w m d h)
+    go (done row) w (fin false m d) h e = rw (done-same (limitedText F o row m d) t e) at (limited-length f F o row (writable F o row w) m d h)
