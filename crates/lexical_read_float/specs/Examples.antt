@@ -77,8 +77,14 @@ reading =
     ∷ is "1FFFFFFFFFFFFF.1^971" (refused 11 0)
     ∷ record { name = "2/2/16, mark A: 1.0AA"; holds = reads binary64 (format 2 2 16) (options 46 65) (bytes "1.0AA") (done 0x4090000000000000) }
     ∷ record { name = "32-bit largest"; holds = reads binary32 (format 16 2 10) (options 46 94) (bytes "F.FFFFF^124") (done 0x7f7fffff) }
-    ∷ record { name = "4,000 zeros undone by the exponent"; holds = reads binary64 (format 16 2 10) (options 46 94) (bytes "0." ++ (replicate 4000 48 ++ bytes "1^16004")) (done one) }
+    ∷ record { name = "mark B, a digit of the radix"; holds = reads binary64 (format 16 2 10) (options 46 66) (bytes "1") (refused 3 0) }
+    ∷ []
+
+-- long texts: a settling digit far behind, an exponent that undoes the fraction, and the limit of 4,096 bytes
+unfoldable pub long : List Example
+long =
+    record { name = "4,000 zeros undone by the exponent"; holds = reads binary64 (format 16 2 10) (options 46 94) (bytes "0." ++ (replicate 4000 48 ++ bytes "1^16004")) (done one) }
     ∷ record { name = "4,097 bytes"; holds = reads binary64 (format 16 2 10) (options 46 94) (replicate 4097 48) (refused 12 0) }
     ∷ record { name = "4,096 bytes"; holds = reads binary64 (format 16 2 10) (options 46 94) (replicate 4096 48) (done 0) }
-    ∷ record { name = "mark B, a digit of the radix"; holds = reads binary64 (format 16 2 10) (options 46 66) (bytes "1") (refused 3 0) }
+    ∷ record { name = "a tie settled behind 4,000 zeros"; holds = reads binary64 (format 16 2 10) (options 46 94) (bytes "1.00000000000008" ++ (replicate 4000 48 ++ bytes "1")) (done (one + 1)) }
     ∷ []

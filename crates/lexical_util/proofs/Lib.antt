@@ -1,3 +1,4 @@
 pub mod AnswerLaws
 pub mod DigitLaws
 pub mod RadixLaws
+pub mod Worked

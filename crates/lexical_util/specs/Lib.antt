@@ -2,3 +2,4 @@ pub mod Answer
 pub mod Digit
 pub mod Num
 pub mod Examples
+pub mod PartsExamples

@@ -16,16 +16,19 @@ use Rattle.lexical_format.specs.declared.options.RoundMode.the-variants.{Round,
 use Rattle.lexical_write_float.specs.Write.{writeText}
 
 -- r/base/exponent radix; mark "^", all else default
-abbrev pub format : ℕ → ℕ → ℕ → Bool → Bool → NumberFormat
-format radix base power required signed = record {
+abbrev formatWith : ℕ → ℕ → ℕ → Bool → Bool → Bool → NumberFormat
+formatWith radix base power required forbidden signed = record {
   «mantissa_radix» = radix;
   «exponent_base» = base;
   «exponent_radix» = power;
   «required_exponent_notation» = required;
-  «no_exponent_notation» = false;
+  «no_exponent_notation» = forbidden;
   «required_exponent_sign» = signed;
   «no_exponent_without_fraction» = false;
 }
+
+abbrev pub format : ℕ → ℕ → ℕ → Bool → Bool → NumberFormat
+format radix base power required signed = formatWith radix base power required false signed
 
 abbrev pub options : ℕ → ℕ → RoundMode → Bool → Options
 options least most mode trim = record {
@@ -102,4 +105,17 @@ unstarred =
     ∷ is "limit, 16/2/10: 64-bit largest, one digit" (plain 16 2 10) (options 0 1 Round false) (double (2 ^ 1024 - 2 ^ 971) 1) "1.0^1024"
     ∷ record { name = "least 1,201"; holds = refuses (plain 2 2 2) (options 1201 0 Round false) (double 0 1) (lent 20) 5 }
     ∷ record { name = "-0"; holds = refuses (plain 2 2 2) default (round binary64 true 0 1) (lent 20) 7 }
+    ∷ []
+
+-- the longest text, with a digit limit and without: 2,275 bytes are enough, and one less is refused
+abbrev longestIn : String → ℕ → ℕ → Answer ℕ → Example
+longestIn name most n wanted =
+    record { name = name; holds = sameAnswer eqb (written (writeText (formatWith 2 2 2 false true false) (options 1200 most Round false) (double 1 (2 ^ 1074))) (lent n)) wanted }
+
+unfoldable pub longest : List Example
+longest =
+    longestIn "2,275 bytes" 0 2275 (done 2275)
+    ∷ longestIn "2,274 bytes" 0 2274 (refused 8 0)
+    ∷ longestIn "2,275 bytes, limit 1,200" 1200 2275 (done 2275)
+    ∷ longestIn "2,274 bytes, limit 1,200" 1200 2274 (refused 8 0)
     ∷ []
