@@ -23,7 +23,7 @@ use Rattle.lexical_format.proofs.FormatLaws.{readable}
 use Rattle.lexical_read_float.specs.Shape.{Shape, print}
 use Rattle.lexical_read_float.specs.Parse.{Parsed, found, stuck, parse, ofParsed, shapeOf, WrongAt}
 use Rattle.lexical_read_float.specs.Round.{tooLarge, Nearest}
-use Rattle.lexical_read_float.specs.Read.{grammarOf, magnitude, isNegative, basePower, numerator, denominator, floatOf, exponentLength, valueOf, readText, readFloat}
+use Rattle.lexical_read_float.specs.Read.{grammarOf, magnitude, isNegative, basePower, numerator, denominator, floatOf, exponentTooLarge, exponentPlace, valueOf, readText, readFloat}
 use Rattle.lexical_read_float.specs.Claims.{PrintedIsRead, FoundIsPrinted, PlaceIsLeast, NearestToText, ReadIsNearest}
 use Rattle.lexical_read_float.proofs.ParseLaws.{Apart, parse-print}
 use Rattle.lexical_read_float.proofs.PlaceLaws.{found-prints, wrong-at}
@@ -95,9 +95,9 @@ float-nearest f a c x C h = go (tooLarge f a c) refl h
 
 value-nearest : (f : Format) (row : Pair) (power : ℕ) (t : List ℕ) (s : Shape) (x : Float) → valueOf f row power t s ≡ done x → Nearest f false (numerator row power s) (denominator row power s) x
 unfolding valueOf
-value-nearest f row power t s x h = go (ltb 32767 (magnitude power (s .tail))) h
+value-nearest f row power t s x h = go (exponentTooLarge power (s .tail)) h
   where
-    go : (b : Bool) → elim b [ true ↦ refused 10 (length t - exponentLength (s .tail)) | false ↦ floatOf f (numerator row power s) (denominator row power s) ] ≡ done x
+    go : (b : Bool) → elim b [ true ↦ refused 10 (exponentPlace t (s .tail)) | false ↦ floatOf f (numerator row power s) (denominator row power s) ] ≡ done x
         → Nearest f false (numerator row power s) (denominator row power s) x
     go true q = absurd (refused-done 10 _ x q)
     go false q = float-nearest f (numerator row power s) (denominator row power s) x (denominator-pos row power s) q

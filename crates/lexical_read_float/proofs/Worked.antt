@@ -8,13 +8,13 @@ use Rattle.lexical_util.specs.Examples.{failing}
 use Rattle.lexical_format.specs.Format.{pairs, findPair, pairOf, badByte, badBytes, readingFormat}
 use Rattle.lexical_read_float.specs.Parse.{run, signedExponent, parseTail, afterWhole, parse, shapeOf}
 use Rattle.lexical_read_float.specs.Round.{tooLarge}
-use Rattle.lexical_read_float.specs.Read.{numerator, denominator, floatOf, valueOf, readText, readFloat}
+use Rattle.lexical_read_float.specs.Read.{numerator, denominator, floatOf, exponentTooLarge, exponentPlace, valueOf, readText, readFloat}
 use Rattle.lexical_read_float.specs.Examples.{reading, long}
 
 pub reading-holds : failing reading ≡ []
-unfolding failing reading readFloat readText valueOf floatOf numerator denominator tooLarge shapeOf parse afterWhole parseTail signedExponent run readingFormat badBytes badByte pairOf findPair pairs readOn isRadix isDigit digitIn digitValue digitByte round units odd size span climb trailingZeros toBits
+unfolding failing reading readFloat readText valueOf exponentTooLarge exponentPlace floatOf numerator denominator tooLarge shapeOf parse afterWhole parseTail signedExponent run readingFormat badBytes badByte pairOf findPair pairs readOn isRadix isDigit digitIn digitValue digitByte round units odd size span climb trailingZeros toBits
 reading-holds = refl
 
 pub long-hold : failing long ≡ []
-unfolding failing long readFloat readText valueOf floatOf numerator denominator tooLarge shapeOf parse afterWhole parseTail signedExponent run readingFormat badBytes badByte pairOf findPair pairs readOn isRadix isDigit digitIn digitValue digitByte round units odd size span climb trailingZeros toBits
+unfolding failing long readFloat readText valueOf exponentTooLarge exponentPlace floatOf numerator denominator tooLarge shapeOf parse afterWhole parseTail signedExponent run readingFormat badBytes badByte pairOf findPair pairs readOn isRadix isDigit digitIn digitValue digitByte round units odd size span climb trailingZeros toBits
 long-hold = refl

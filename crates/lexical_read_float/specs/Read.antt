@@ -49,16 +49,20 @@ module _ (row : Pair) (power : ℕ) (s : Shape) where
 unfoldable pub floatOf : Format → ℕ → ℕ → Answer Float
 floatOf f num den = checked ((11, tooLarge f num den) ∷ []) (done (round f false num den))
 
--- exponent digits stand at the end of a text
-abbrev pub exponentLength : Tail → ℕ
-exponentLength absent = 0
-exponentLength (exponent s ds) = length ds
+-- 10 exponent magnitude above 32,767
+unfoldable pub exponentTooLarge : ℕ → Tail → Bool
+exponentTooLarge power tail = ltb 32767 (magnitude power tail)
 
--- 10 exponent magnitude above 32,767, place its first digit
+-- place its first digit: the exponent's digits are the last of a text
+unfoldable pub exponentPlace : List ℕ → Tail → ℕ
+exponentPlace t absent = length t
+exponentPlace t (exponent s ds) = length t - length ds
+
+-- decided before the power is formed, so that a long exponent evaluates at once
 unfoldable pub valueOf : Format → Pair → ℕ → List ℕ → Shape → Answer Float
 valueOf f row power t s =
-    elim (ltb 32767 (magnitude power (s .tail))) [
-      | true ↦ refused 10 (length t - exponentLength (s .tail))
+    elim (exponentTooLarge power (s .tail)) [
+      | true ↦ refused 10 (exponentPlace t (s .tail))
       | false ↦ floatOf f (numerator row power s) (denominator row power s)
     ]
 

@@ -102,6 +102,7 @@ unstarred =
     is "16/2/10: 32-bit largest" (plain 16 2 10) default (round binary32 false (2 ^ 128 - 2 ^ 104) 1) "F.FFFFF^124"
     ∷ is "2/2/2: 0, least 5" (plain 2 2 2) (options 5 0 Round false) (double 0 1) "0.00000"
     ∷ is "2/2/2: 0, least 5, exponent required" (format 2 2 2 true false) (options 5 0 Round false) (double 0 1) "0.0000^0"
+    ∷ is "limit, 16/16/16: 2.5, one digit, a tie to the even one" (plain 16 16 16) (options 0 1 Round false) (double 5 2) "2.0"
     ∷ is "limit, 16/2/10: 64-bit largest, one digit" (plain 16 2 10) (options 0 1 Round false) (double (2 ^ 1024 - 2 ^ 971) 1) "1.0^1024"
     ∷ record { name = "least 1,201"; holds = refuses (plain 2 2 2) (options 1201 0 Round false) (double 0 1) (lent 20) 5 }
     ∷ record { name = "-0"; holds = refuses (plain 2 2 2) default (round binary64 true 0 1) (lent 20) 7 }
