@@ -8,9 +8,9 @@ use native.Mathlib.Omega.{arith}
 use native.Mathlib.Nat.{lt-of-lt-of-le}
 use borrow.Author.Tests.{eq-eqb, ne-eqb, ltb-true, ltb-false}
 use lib.Dec.{ltb, eqb}
-use Rattle.lexical_util.specs.Digit.{digitByte, digitIn}
+use Rattle.lexical_util.specs.Digit.{digitByte, digitIn, AreDigits}
 use Rattle.lexical_util.proofs.DigitLaws.{byte-figure, byte-capital}
-use Rattle.lexical_read_float.specs.Shape.{Grammar, Sign, unsigned, plus, minus, Tail, absent, exponent, Shape, signBytes, tailBytes, fractionBytes, print, AreDigits, Some, TailFits, FractionFits, WellFormed}
+use Rattle.lexical_read_float.specs.Shape.{Grammar, Sign, unsigned, plus, minus, Tail, absent, exponent, Shape, signBytes, tailBytes, fractionBytes, print, Some, TailFits, FractionFits, WellFormed}
 use Rattle.lexical_read_float.specs.Parse.{Run, run, Parsed, found, stuck, mapParsed, allDigits, exponentDigits, signedExponent, parseTail, withTail, afterPoint, afterWhole, oneOrMore, parse}
 use Rattle.lexical_read_float.proofs.RunLaws.{Ends, run-digits, run-all}
 

@@ -11,9 +11,9 @@ use borrow.Author.Tests.{eqb-true, eq-eqb}
 use lib.Dec.{eqb}
 use lib.ListN.{length, take, drop, length-append, take-append-drop}
 use lib.Seq.{take-append-le, take-at}
-use Rattle.lexical_util.specs.Digit.{digitByte, digitIn}
+use Rattle.lexical_util.specs.Digit.{digitByte, digitIn, AreDigits}
 use Rattle.lexical_util.proofs.DigitLaws.{in-digit}
-use Rattle.lexical_read_float.specs.Shape.{Grammar, Sign, unsigned, plus, minus, Tail, absent, exponent, Shape, signBytes, tailBytes, fractionBytes, print, AreDigits, Some, TailFits, FractionFits, WellFormed, WellShaped, Begins}
+use Rattle.lexical_read_float.specs.Shape.{Grammar, Sign, unsigned, plus, minus, Tail, absent, exponent, Shape, signBytes, tailBytes, fractionBytes, print, Some, TailFits, FractionFits, WellFormed, WellShaped, Begins}
 use Rattle.lexical_read_float.specs.Parse.{Run, run, Parsed, found, stuck, mapParsed, allDigits, exponentDigits, signedExponent, parseTail, withTail, afterPoint, afterWhole, oneOrMore, parse, WrongAt}
 use Rattle.lexical_read_float.proofs.RunLaws.{Head, Ends, IsRun, is-run, run-stops, run-digits, run-all}
 use Rattle.lexical_read_float.proofs.ParseLaws.{Apart, byte-no-sign, no-sign, parse-print}

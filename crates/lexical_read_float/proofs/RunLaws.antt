@@ -3,9 +3,8 @@ use Prim.Native.Nat.{ℕ, suc, _≤_, _<_}
 use mathlib.Core.Path.{_≡_, refl, sym, ap, ap₂, _∙_, subst}
 use mathlib.Core.List.{List, [], _∷_, _++_, map, append-nil}
 use mathlib.Core.Option.{Option, none, some}
-use Rattle.lexical_util.specs.Digit.{digitByte, digitIn}
+use Rattle.lexical_util.specs.Digit.{digitByte, digitIn, AreDigits}
 use Rattle.lexical_util.proofs.DigitLaws.{digit-in, in-digit}
-use Rattle.lexical_read_float.specs.Shape.{AreDigits}
 use Rattle.lexical_read_float.specs.Parse.{Run, more, run}
 
 -- a text's first byte, where it has one

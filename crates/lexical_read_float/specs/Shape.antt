@@ -1,9 +1,9 @@
 -- The shape of a text, and the text of a shape: document 01, "Reader". Definitions only.
-use Prim.Native.Nat.{ℕ, _<_}
+use Prim.Native.Nat.{ℕ}
 use mathlib.Core.Path.{_≡_}
 use mathlib.Core.Bool.{Bool, true, false}
 use mathlib.Core.List.{List, [], _∷_, _++_, map}
-use Rattle.lexical_util.specs.Digit.{digitByte}
+use Rattle.lexical_util.specs.Digit.{digitByte, AreDigits}
 
 -- what a text is read by: the radix of its digits, the exponent radix, the point and the mark
 pub record Grammar : Type 0 where
@@ -46,14 +46,6 @@ unfoldable pub print : Grammar → Shape → List ℕ
 print G s = map digitByte (s .whole) ++ (fractionBytes G (s .dot) (s .fraction) ++ tailBytes G (s .tail))
 
 -- ---- which shapes a text may have
--- digits of the radix
-abbrev pub All : {A : Type 0} → (A → Type 0) → List A → Type 0
-All P [] = Unit {0}
-All P (x ∷ xs) = P x × All P xs
-
-abbrev pub AreDigits : ℕ → List ℕ → Type 0
-AreDigits radix ds = All (λ d. d < radix) ds
-
 -- one or more
 abbrev pub Some : List ℕ → Type 0
 Some [] = ⊥

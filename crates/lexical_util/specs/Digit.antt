@@ -1,5 +1,5 @@
 -- Digits as bytes and as numbers: document 01, "Integer digits" and "Reader". Definitions only.
-use Prim.Native.Nat.{ℕ, _+_, _-_, _*_}
+use Prim.Native.Nat.{ℕ, _+_, _-_, _*_, _<_}
 use mathlib.Core.Bool.{Bool, true, false, cond, _&&_, _||_}
 use mathlib.Core.List.{List, [], _∷_}
 use mathlib.Core.Option.{Option, none, some}
@@ -34,6 +34,15 @@ isSome (some a) = true
 
 unfoldable pub isDigit : ℕ → ℕ → Bool
 isDigit radix x = isSome (digitIn radix x)
+
+-- every element of a list
+abbrev pub All : {A : Type 0} → (A → Type 0) → List A → Type 0
+All P [] = Unit {0}
+All P (x ∷ xs) = P x × All P xs
+
+-- digits of the radix
+abbrev pub AreDigits : ℕ → List ℕ → Type 0
+AreDigits radix ds = All (λ d. d < radix) ds
 
 -- the number that digits spell in the radix, the most significant first, after those that spell n
 unfoldable pub readOn : ℕ → ℕ → List ℕ → ℕ

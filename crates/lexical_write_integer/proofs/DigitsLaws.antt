@@ -12,7 +12,7 @@ use lib.Pow.{pow-add, pow-mono}
 use lib.Seq.{getD-at}
 use lib.Ieee.{size}
 use lib.Ieee.Digits.{size-lt, size-reaches}
-use Rattle.lexical_util.specs.Digit.{digitByte, readOn, digitsValue}
+use Rattle.lexical_util.specs.Digit.{digitByte, AreDigits, readOn, digitsValue}
 use Rattle.lexical_write_integer.specs.Digits.{digitsUpTo, digits, numeral}
 
 -- ---- the two cases, and induction by them
@@ -76,17 +76,13 @@ digits-value r hr = by-quotient r hr (λ x. digitsValue r (digits r x) ≡ x) sm
     step x h ih = rw (digits-ge r x hr h, read-snoc, ih) (div-add-mod' x r)
 
 -- ---- each is below the radix
-abbrev pub AllBelow : ℕ → List ℕ → Type 0
-AllBelow r [] = Unit {0}
-AllBelow r (d ∷ ds) = (d < r) × AllBelow r ds
-
-below-snoc : (r : ℕ) (xs : List ℕ) (d : ℕ) → AllBelow r xs → d < r → AllBelow r (xs ++ (d ∷ []))
+below-snoc : (r : ℕ) (xs : List ℕ) (d : ℕ) → AreDigits r xs → d < r → AreDigits r (xs ++ (d ∷ []))
 below-snoc r [] d h k = (k, tt)
 below-snoc r (x ∷ xs) d h k = (h .0, below-snoc r xs d (h .1) k)
 
-pub digits-below : (r : ℕ) → 1 < r → (x : ℕ) → AllBelow r (digits r x)
+pub digits-below : (r : ℕ) → 1 < r → (x : ℕ) → AreDigits r (digits r x)
 digits-below r hr =
-    by-quotient r hr (λ x. AllBelow r (digits r x)) (λ x h. rw (digits-lt r x h) (h, tt))
+    by-quotient r hr (λ x. AreDigits r (digits r x)) (λ x h. rw (digits-lt r x h) (h, tt))
     (λ x h ih. rw (digits-ge r x hr h) (below-snoc r (digits r (x / r)) (x % r) ih (mod-lt x {m = r} (omega arith))))
 
 -- ---- how many there are

@@ -1,0 +1,3 @@
+pub mod TextShape
+pub mod WellFormedText
+pub mod WrittenLaws

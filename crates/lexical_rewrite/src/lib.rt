@@ -1,0 +1,1 @@
+// Rewriting a float's text from one format to another.
