@@ -1,1 +1,5 @@
+pub mod AnswerLaws
+pub mod CountLaws
 pub mod DigitsLaws
+pub mod FillLaws
+pub mod PairLaws

@@ -1,0 +1,78 @@
+-- Digit pairs: the table's rule, and two digits of radix 32 stored by it. Assumes nothing.
+use Prim.Native.Nat.{ℕ, zero, suc, _+_, _-_, _*_, _/_, _%_, _≤_, _<_}
+use mathlib.Core.Path.{_≡_, refl, sym, ap, _∙_}
+use mathlib.Core.List.{List, [], _∷_, _++_}
+use native.Mathlib.Nat.{add-zero, zero-add, add-suc, suc-add, le-of-suc-le-suc, not-suc-le-zero}
+use native.Mathlib.Omega.{arith}
+use lib.ListN.{length, getD, drop, set, length-set}
+use Rattle.lexical_util.specs.Digit.{digitByte}
+use Rattle.lexical_write_integer.specs.Digits.{digits, numeral}
+use Rattle.lexical_write_integer.specs.Table.{pairByte}
+use Rattle.lexical_write_integer.proofs.DigitsLaws.{count-ge}
+use Rattle.lexical_write_integer.proofs.FillLaws.{back-step, back-end}
+
+-- ---- a table computed from a rule has the rule's value at each entry
+abbrev pub tab : (ℕ → ℕ) → ℕ → ℕ → List ℕ
+tab f i zero = []
+tab f i (suc n) = f i ∷ tab f (suc i) n
+
+from : (f : ℕ → ℕ) (n i k : ℕ) → k < n → getD (tab f i n) k 0 ≡ f (i + k)
+from f zero i k h = absurd (not-suc-le-zero h)
+from f (suc n) i zero h = ap f (sym (add-zero i))
+from f (suc n) i (suc k) h = from f n (suc i) k (le-of-suc-le-suc h) ∙ ap f (suc-add i k ∙ sym (add-suc i k))
+
+pub tab-at : (f : ℕ → ℕ) (n k : ℕ) → k < n → getD (tab f 0 n) k 0 ≡ f k
+tab-at f n k h = from f n 0 k h ∙ ap f (zero-add k)
+
+-- the 1,024 pairs follow the rule
+pub record Pairs (table : List ℕ) : Type 0 where
+  pub at : (k : ℕ) → k < 2048 → getD table k 0 ≡ pairByte k
+
+-- ---- the two bytes of a pair
+pair-high : (q : ℕ) → pairByte (2 * q) ≡ digitByte (q / 32)
+unfolding pairByte
+pair-high q =
+    let e : 2 * q % 2 ≡ 0 = omega arith in
+    let h : 2 * q / 2 ≡ q = omega arith in
+    rw (e, h)
+
+pair-low : (q : ℕ) → pairByte (2 * q + 1) ≡ digitByte (q % 32)
+unfolding pairByte
+pair-low q =
+    let e : (2 * q + 1) % 2 ≡ 1 = omega arith in
+    let h : (2 * q + 1) / 2 ≡ q = omega arith in
+    rw (e, h)
+
+-- ---- two digits at a time
+pub count-two : (v : ℕ) → 1024 ≤ v → length (digits 32 v) ≡ length (digits 32 (v / 1024)) + 2
+count-two v h =
+    let e : v / 32 / 32 ≡ v / 1024 = omega arith in
+    let b = rw e at (count-ge 32 (v / 32) (omega arith) (omega arith)) in
+    omega (arith, count-ge 32 v (omega arith) (omega arith))
+
+module _ (table : List ℕ) (rule : Pairs table) (v : ℕ) (W out : List ℕ) (i a b : ℕ)
+    (at-low : a ≡ getD table (2 * (v % 1024) + 1) 0)
+    (at-high : b ≡ getD table (2 * (v % 1024)) 0)
+    (left : W ≡ numeral 32 v ++ drop i out)
+  where
+    low : a ≡ digitByte (v % 32)
+    low =
+        let e : v % 1024 % 32 ≡ v % 32 = omega arith in
+        at-low ∙ rule .at (2 * (v % 1024) + 1) (omega arith) ∙ pair-low (v % 1024) ∙ rw e
+
+    high : b ≡ digitByte (v / 32 % 32)
+    high =
+        let e : v % 1024 / 32 ≡ v / 32 % 32 = omega arith in
+        at-high ∙ rule .at (2 * (v % 1024)) (omega arith) ∙ pair-high (v % 1024) ∙ rw e
+
+    pub two-steps : 1024 ≤ v → 1 < i → i ≤ length out → W ≡ numeral 32 (v / 1024) ++ drop (i - 1 - 1) (set (set out (i - 1) a) (i - 1 - 1) b)
+    two-steps h p q =
+        let e : v / 32 / 32 ≡ v / 1024 = omega arith in
+        let s = back-step 32 v W out i a (omega arith) (omega arith) (omega arith) q low left in
+        rw e at (back-step 32 (v / 32) W (set out (i - 1) a) (i - 1) b (omega arith) (omega arith) (omega arith) (simp length-set (omega arith)) high s)
+
+    pub two-last : v < 1024 → 32 ≤ v → i ≡ 2 → 1 < length out → set (set out 1 a) 0 b ≡ W
+    two-last h l e q =
+        let s = back-step 32 v W out 2 a (omega arith) l (omega arith) q low (rw e at left) in
+        let f : v / 32 % 32 ≡ v / 32 = omega arith in
+        back-end 32 (v / 32) W (set out 1 a) 1 b (omega arith) (omega arith) (simp length-set (omega arith)) (rw f at high) s

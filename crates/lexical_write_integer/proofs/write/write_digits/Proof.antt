@@ -1,0 +1,53 @@
+-- `lexical_write_integer::write::write_digits` meets its contract: each branch fills in the radix that it is taken for. Assumes nothing.
+use mathlib.Core.Path.{_∙_}
+use native.Mathlib.Omega.{arith}
+use borrow.Author.Needs.{needs}
+use Rattle.lexical_write_integer.proofs.write.write_digits.Statement.{statement}
+use Rattle.lexical_write_integer.proofs.write.write_digits.Tie as tie
+
+decimal-requires : tie.Need-decimal-requires
+decimal-requires c κs = (rw (c .before .if1 .taken) at (c .before .before .before .pre .1), omega arith)
+
+radix-32-requires : tie.Need-radix-32-requires
+radix-32-requires c κs = (rw (c .before .if2 .taken) at (c .before .before .before .before .pre .1), omega arith)
+
+digit-bits-requires : tie.Need-digit-bits-requires
+digit-bits-requires c κs = search needs
+
+radix-requires : tie.Need-radix-requires
+radix-requires c κs =
+    let e = c .before .digit-bits .ensures in
+    (e .1, e .2, rw (e .0) (c .before .before .before .before .before .pre .1), omega arith)
+
+same-length : tie.Need-same-length
+same-length c = search needs
+
+returns : tie.Need-returns
+returns c = rw (c .before .before .before .before .if1 .taken) (c .before .before .decimal .ensures)
+
+same-length-2 : tie.Need-same-length-2
+same-length-2 c = search needs
+
+returns-2 : tie.Need-returns-2
+returns-2 c = rw (c .before .before .before .before .if2 .taken) (c .before .before .radix-32 .ensures)
+
+same-length-3 : tie.Need-same-length-3
+same-length-3 c = search needs
+
+returns-3 : tie.Need-returns-3
+returns-3 c = c .before .before .radix .ensures ∙ rw (c .before .before .before .before .digit-bits .ensures .0)
+
+pub write-digits-spec : {M : Type 1} → statement M
+write-digits-spec =
+    tie.close
+    (tie.spec
+    decimal-requires
+    radix-32-requires
+    digit-bits-requires
+    radix-requires
+    same-length
+    returns
+    same-length-2
+    returns-2
+    same-length-3
+    returns-3)

@@ -1,0 +1,54 @@
+// Derived from lexical-write-integer/src/digit_count.rs, changed: u64 alone, the radix by its bits, a test for 0 instead of `x | 1`.
+ghost use mathlib.Core.Path.{_≡_};
+ghost use mathlib.Core.Bool.{true};
+ghost use Prim.Native.Nat.{_^_, _-_, _<_, _≤_};
+ghost use lib.Ieee.{size};
+ghost use lib.ListN.{length};
+ghost use Rattle.lexical_util.specs.Digit.{isRadix};
+ghost use Rattle.lexical_write_integer.specs.Digits.{digits};
+use crate::decimal::decimal_count;
+
+// The place of the highest bit that is set, 0 for 0.
+pub(crate) fn fast_log2(x: u64) -> u32
+    ensures { λ r. ⌜ r ≡ size x - 1 ⌝ }
+{
+    if x == 0 {
+        0
+    } else {
+        63 - u64::leading_zeros(x)
+    }
+}
+
+// How many digits value has in radix 2^b.
+pub(crate) fn digit_log(value: u64, b: u32) -> usize
+    requires { ⌜ (0 < b) × (b ≤ 5) ⌝ }
+    ensures { λ r. ⌜ r ≡ length (digits (2 ^ b) value) ⌝ }
+{
+    (fast_log2(value) / b + 1) as usize
+}
+
+// The bits of a digit: b of radix 2^b.
+pub(crate) fn digit_bits(radix: u32) -> u32
+    requires { ⌜ (isRadix radix ≡ true) × (radix ≡ 10 → ⊥) ⌝ }
+    ensures { λ r. ⌜ (2 ^ r ≡ radix) × (0 < r) × (r ≤ 5) ⌝ }
+{
+    match radix {
+        2 => 1,
+        4 => 2,
+        8 => 3,
+        16 => 4,
+        _ => 5,
+    }
+}
+
+// How many digits value has in any radix.
+pub(crate) fn digit_count(value: u64, radix: u32) -> usize
+    requires { ⌜ isRadix radix ≡ true ⌝ }
+    ensures { λ r. ⌜ r ≡ length (digits radix value) ⌝ }
+{
+    if radix == 10 {
+        decimal_count(value)
+    } else {
+        digit_log(value, digit_bits(radix))
+    }
+}

@@ -1,0 +1,55 @@
+// Derived from lexical-write-integer/src/write.rs, changed: the radix is an argument, and refusals stand for assertions.
+ghost use mathlib.Core.Path.{_≡_};
+ghost use mathlib.Core.Bool.{true};
+ghost use mathlib.Core.List.{_++_};
+ghost use Prim.Native.Nat.{_≤_};
+ghost use lib.ListN.{length, drop};
+ghost use Rattle.lexical_util.specs.Answer.{written, held, ofWritten};
+ghost use Rattle.lexical_util.specs.Digit.{isRadix};
+ghost use Rattle.lexical_write_integer.specs.Digits.{digits, numeral};
+ghost use Rattle.lexical_write_integer.specs.Write.{digitsText};
+use crate::decimal::decimal;
+use crate::digit_count::digit_bits;
+use crate::digit_count::digit_count;
+use crate::radix::radix;
+use crate::radix::radix_32;
+use lexical_util::Refusal;
+use lexical_util::Written;
+
+// The digits of value, of which there are count, by the loop of the radix.
+fn write_digits(value: u64, base: u32, count: usize, buffer: &mut [u8])
+    requires { ⌜ (isRadix base ≡ true) × (count ≡ length (digits base value)) × (count ≤ length (now buffer)) ⌝ }
+    ensures { λ _. ⌜ now (buffer .exit) ≡ numeral base value ++ drop count (now (buffer .entry)) ⌝ }
+{
+    if base == 10 {
+        decimal(value, count, buffer);
+    } else if base == 32 {
+        radix_32(value, count, buffer);
+    } else {
+        radix(value, digit_bits(base), count, buffer);
+    }
+}
+
+// The digits of value in the radix, or a refusal, which leaves every byte as it was.
+pub fn write_integer(value: u64, radix: u32, buffer: &mut [u8]) -> Written
+    ensures { λ r. ⌜ ofWritten r ≡ written (digitsText value radix) (now (buffer .entry)) ⌝ }
+    ensures { λ _. ⌜ now (buffer .exit) ≡ held (digitsText value radix) (now (buffer .entry)) ⌝ }
+{
+    if lexical_util::is_radix(radix) {
+        let count = digit_count(value, radix);
+        if count <= buffer.len() {
+            write_digits(value, radix, count, buffer);
+            Written::Length(count)
+        } else {
+            Written::Refused(Refusal {
+                number: 8,
+                place: 0,
+            })
+        }
+    } else {
+        Written::Refused(Refusal {
+            number: 2,
+            place: 0,
+        })
+    }
+}
