@@ -1,4 +1,4 @@
-// Digits as bytes, and pairs of them. The Rust crate's tables are in none of the files given, so document 01 is their meaning.
+// Digits as bytes, and pairs of them. Document 01 is their meaning: the tables are in none of the Rust files that it lists.
 ghost use mathlib.Core.Path.{_≡_};
 ghost use Prim.Native.Nat.{_<_};
 ghost use lib.ListN.{getD};

@@ -34,7 +34,7 @@ shl-mask : tie.Need-shl-mask Inv-loop μ-loop
 shl-mask c = omega arith
 
 sub-mask : tie.Need-sub-mask Inv-loop μ-loop
-sub-mask c = rw (shifted (c .before .args .b) (omega arith)) (pow-pos (c .before .args .b))
+sub-mask c = let b = c .before .args .b in omega (arith, shifted b (omega arith), radix-above b (omega arith))
 
 loop-holds : tie.Need-loop-holds Inv-loop μ-loop
 loop-holds c =
