@@ -1,8 +1,6 @@
 -- `lexical_write_integer::digit_count::digit_count` meets its contract. Assumes nothing.
-use mathlib.Core.Path.{_∙_, ap}
+use mathlib.Core.Path.{_∙_}
 use borrow.Author.Needs.{needs}
-use lib.ListN.{length}
-use Rattle.lexical_write_integer.specs.Digits.{digits}
 use Rattle.lexical_write_integer.proofs.digit_count.digit_count.Statement.{statement}
 use Rattle.lexical_write_integer.proofs.digit_count.digit_count.Tie as tie
 
