@@ -3,3 +3,4 @@ pub mod CountLaws
 pub mod DigitsLaws
 pub mod FillLaws
 pub mod PairLaws
+pub mod DigitsClaims

@@ -1,3 +1,4 @@
 pub mod Digits
 pub mod Table
 pub mod Write
+pub mod Claims
