@@ -39,11 +39,23 @@ one-of r k rest = go (eqb r k) refl
     go true e h = inl (eqb-true r k e)
     go false e h = inr h
 
-pub radix-bounds : (r : ℕ) → isRadix r ≡ true → (1 < r) × (r ≤ 32)
+pub radix-six : (r : ℕ) → isRadix r ≡ true → Six r
 unfolding isRadix
-radix-bounds r h2 =
-    ⊎-elim (λ e. omega arith) (λ h4.
-    ⊎-elim (λ e. omega arith) (λ h8.
-    ⊎-elim (λ e. omega arith) (λ h10.
-    ⊎-elim (λ e. omega arith) (λ h16.
-    ⊎-elim (λ e. omega arith) (λ h32. omega (arith, eqb-true r 32 h32)) (one-of r 16 _ h16)) (one-of r 10 _ h10)) (one-of r 8 _ h8)) (one-of r 4 _ h4)) (one-of r 2 _ h2)
+radix-six r h =
+    ⊎-elim inl (λ h4. inr (
+    ⊎-elim inl (λ h8. inr (
+    ⊎-elim inl (λ h10. inr (
+    ⊎-elim inl (λ h16. inr (
+    ⊎-elim inl (λ h32. inr (eqb-true r 32 h32))
+    (one-of r 16 _ h16))) (one-of r 10 _ h10))) (one-of r 8 _ h8))) (one-of r 4 _ h4))) (one-of r 2 _ h)
+
+pub radix-bounds : (r : ℕ) → isRadix r ≡ true → (1 < r) × (r ≤ 32)
+radix-bounds r h = go (radix-six r h)
+  where
+    go : Six r → (1 < r) × (r ≤ 32)
+    go (inl e) = omega arith
+    go (inr (inl e)) = omega arith
+    go (inr (inr (inl e))) = omega arith
+    go (inr (inr (inr (inl e)))) = omega arith
+    go (inr (inr (inr (inr (inl e))))) = omega arith
+    go (inr (inr (inr (inr (inr e))))) = omega arith

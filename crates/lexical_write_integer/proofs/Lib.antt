@@ -1,4 +1,4 @@
-pub mod AnswerLaws
+pub mod DigitsAnswer
 pub mod CountLaws
 pub mod DigitsLaws
 pub mod FillLaws

@@ -1,7 +1,7 @@
 // Derived from lexical-write-integer/src/radix.rs, changed: shifts and a mask, pairs in radix 32 alone, the count given.
 ghost use mathlib.Core.Path.{_≡_};
 ghost use mathlib.Core.List.{_++_};
-ghost use Prim.Native.Nat.{_^_, _<_, _≤_};
+ghost use Prim.Native.Nat.{_%_, _^_, _<_, _≤_};
 ghost use lib.ListN.{length, drop};
 ghost use Rattle.lexical_write_integer.specs.Digits.{digits, numeral};
 use crate::table::DIGIT_TO_BASE32_SQUARED;
@@ -24,8 +24,15 @@ pub(crate) fn radix(value: u64, b: u32, count: usize, buffer: &mut [u8])
     buffer[0] = digit_to_char(v as u8);
 }
 
-// The same in radix 32, two digits at a time.
-pub(crate) fn radix_32(value: u64, count: usize, buffer: &mut [u8])
+// The last two digits in radix 32, as one number.
+fn last_pair(v: u64) -> usize
+    ensures { λ r. ⌜ r ≡ v % 1024 ⌝ }
+{
+    (v & 1023) as usize
+}
+
+// The digits of value in radix 32, two at a time from the table.
+fn radix_32_pairs(value: u64, count: usize, buffer: &mut [u8])
     requires { ⌜ (count ≡ length (digits 32 value)) × (count ≤ length (now buffer)) ⌝ }
     ensures { λ _. ⌜ now (buffer .exit) ≡ numeral 32 value ++ drop count (now (buffer .entry)) ⌝ }
 {
@@ -33,12 +40,12 @@ pub(crate) fn radix_32(value: u64, count: usize, buffer: &mut [u8])
     let mut i = count;
     let mut v = value;
     while 1024 <= v {
-        let pair = (v % 1024) as usize;
+        let pair = last_pair(v);
         i -= 1;
         buffer[i] = table_byte(table, 2 * pair + 1);
         i -= 1;
         buffer[i] = table_byte(table, 2 * pair);
-        v = v / 1024;
+        v = v >> 10;
     }
     let pair = v as usize;
     if 32 <= v {
@@ -46,5 +53,17 @@ pub(crate) fn radix_32(value: u64, count: usize, buffer: &mut [u8])
         buffer[0] = table_byte(table, 2 * pair);
     } else {
         buffer[0] = digit_to_char(v as u8);
+    }
+}
+
+// The same, without the table where two digits are all: each call that uses it builds it first.
+pub(crate) fn radix_32(value: u64, count: usize, buffer: &mut [u8])
+    requires { ⌜ (count ≡ length (digits 32 value)) × (count ≤ length (now buffer)) ⌝ }
+    ensures { λ _. ⌜ now (buffer .exit) ≡ numeral 32 value ++ drop count (now (buffer .entry)) ⌝ }
+{
+    if value < 1024 {
+        radix(value, 5, count, buffer);
+    } else {
+        radix_32_pairs(value, count, buffer);
     }
 }

@@ -1,9 +1,10 @@
--- `lexical_write_integer::radix::radix_32` meets its contract: the digits left and the bytes stored are the whole, and the table follows its rule.
+-- `lexical_write_integer::radix::radix_32_pairs` meets its contract: the digits left and the bytes stored are the whole, and the table follows its rule.
 -- The rule is proved of all its entries at once, where the loop begins: antt computes them from the rule, and compares. Assumes nothing.
 use Prim.Native.Nat.{_+_, _/_, _%_, _≤_, _<_}
 use mathlib.Core.Path.{_≡_, refl}
 use mathlib.Core.List.{_++_}
 use native.Mathlib.Omega.{arith}
+use borrow.Author.Needs.{needs}
 use lib.ListN.{length, drop, length-set}
 use Rattle.lexical_util.specs.Digit.{digitByte}
 use Rattle.lexical_write_integer.specs.Digits.{digits, numeral}
@@ -11,8 +12,8 @@ use Rattle.lexical_write_integer.specs.Table.{pairByte}
 use Rattle.lexical_write_integer.proofs.DigitsLaws.{count-lt, count-ge, count-pos}
 use Rattle.lexical_write_integer.proofs.FillLaws.{back-end}
 use Rattle.lexical_write_integer.proofs.PairLaws.{Pairs, tab-at, count-two, two-steps, two-last}
-use Rattle.lexical_write_integer.proofs.radix.radix_32.Statement.{statement}
-use Rattle.lexical_write_integer.proofs.radix.radix_32.Tie as tie
+use Rattle.lexical_write_integer.proofs.radix.radix_32_pairs.Statement.{statement}
+use Rattle.lexical_write_integer.proofs.radix.radix_32_pairs.Tie as tie
 
 abbrev Inv-loop : tie.InvT-loop
 Inv-loop value count buffer₀ table i₀ v₀ buffer i v =
@@ -33,8 +34,11 @@ loop-holds : tie.Need-loop-holds Inv-loop μ-loop
 unfolding pairByte digitByte
 loop-holds c = (omega arith, refl, refl, omega arith, record { at = λ k h. tab-at pairByte 2048 k h })
 
+last-pair-requires : tie.Need-last-pair-requires Inv-loop μ-loop
+last-pair-requires c κs = search needs
+
 sub-i : tie.Need-sub-i Inv-loop μ-loop
-sub-i c = omega (arith, two c)
+sub-i c = omega (arith, two (c .before))
 
 mul-table-byte : tie.Need-mul-table-byte Inv-loop μ-loop
 mul-table-byte c = omega arith
@@ -46,10 +50,10 @@ table-byte-requires : tie.Need-table-byte-requires Inv-loop μ-loop
 table-byte-requires c κs = omega arith
 
 slice-write-buffer : tie.Need-slice-write-buffer Inv-loop μ-loop
-slice-write-buffer c = omega (arith, two (c .before))
+slice-write-buffer c = omega (arith, two (c .before .before))
 
 sub-i-2 : tie.Need-sub-i-2 Inv-loop μ-loop
-sub-i-2 c = omega (arith, two (c .before))
+sub-i-2 c = omega (arith, two (c .before .before))
 
 mul-table-byte-2 : tie.Need-mul-table-byte-2 Inv-loop μ-loop
 mul-table-byte-2 c = omega arith
@@ -58,17 +62,18 @@ table-byte-requires-2 : tie.Need-table-byte-requires-2 Inv-loop μ-loop
 table-byte-requires-2 c κs = omega arith
 
 slice-write-buffer-2 : tie.Need-slice-write-buffer-2 Inv-loop μ-loop
-slice-write-buffer-2 c = simp length-set (omega (arith, two (c .before .before)))
+slice-write-buffer-2 c = simp length-set (omega (arith, two (c .before .before .before)))
 
 loop-less : tie.Need-loop-less Inv-loop μ-loop
 loop-less c = omega arith
 
 loop-again : tie.Need-loop-again Inv-loop μ-loop
 loop-again c =
-    let l = c .before .before .before .loop in
-    let t = two (c .before .before) in (
+    let l = c .before .before .before .before .loop in
+    let t = two (c .before .before .before) in
+    let p = c .before .before .last-pair .ensures in (
       omega (arith, count-two (l .v) (omega arith)),
-      two-steps _ (l .inv .4) (l .v) _ (l .buffer) (l .i) _ _ (c .before .table-byte .ensures) (c .table-byte2 .ensures) (l .inv .1) (omega arith) t (omega arith),
+      two-steps _ (l .inv .4) (l .v) _ (l .buffer) (l .i) _ _ (rw p at (c .before .table-byte .ensures)) (rw p at (c .table-byte2 .ensures)) (l .inv .1) (omega arith) t (omega arith),
       simp length-set (l .inv .2),
       omega arith,
       l .inv .4,
@@ -124,13 +129,14 @@ returns-2 c =
     let k = count-lt 32 (l .v) (omega arith) in
     back-end 32 (l .v) _ (l .buffer) (l .i) _ (omega arith) (omega arith) (omega arith) (c .digit-to-char .ensures) (l .inv .1)
 
-pub radix-32-spec : {M : Type 1} → statement M
-radix-32-spec =
+pub radix-32-pairs-spec : {M : Type 1} → statement M
+radix-32-pairs-spec =
     tie.close
     (tie.spec
     Inv-loop
     μ-loop
     loop-holds
+    last-pair-requires
     sub-i
     mul-table-byte
     add-table-byte
