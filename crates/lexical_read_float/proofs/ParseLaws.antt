@@ -18,8 +18,8 @@ use Rattle.lexical_read_float.proofs.RunLaws.{Ends, run-digits, run-all
 pub record Apart (G : Grammar) : Type 0 where
   pub radix-pos : 0 < G .radix
   pub radix-small : G .radix ≤ 32
-  pub power-pos : 0 < G .power
-  pub power-small : G .power ≤ 32
+  pub power-pos : 0 < G .exponentRadix
+  pub power-small : G .exponentRadix ≤ 32
   pub point-off : digitIn (G .radix) (G .point) ≡ none
   pub mark-off : digitIn (G .radix) (G .mark) ≡ none
   pub differ : eqb (G .mark) (G .point) ≡ false
@@ -38,19 +38,19 @@ unfolding signedExponent
 no-sign power x xs p q = rw (p, q)
 
 module _ (G : Grammar) (A : Apart G) where
-  all-digits : (s : Sign) (ds : List ℕ) → Some ds → AreDigits (G .power) ds → exponentDigits (G .power) s (map digitByte ds) ≡ found (exponent s ds)
+  all-digits : (s : Sign) (ds : List ℕ) → Some ds → AreDigits (G .exponentRadix) ds → exponentDigits (G .exponentRadix) s (map digitByte ds) ≡ found (exponent s ds)
   all-digits s [] n all = absurd n
-  all-digits s (d ∷ ds) n all = ap (λ (r : Run). allDigits s (r .got) (r .left)) (run-all (G .power) (d ∷ ds) (A .power-small) all)
+  all-digits s (d ∷ ds) n all = ap (λ (r : Run). allDigits s (r .got) (r .left)) (run-all (G .exponentRadix) (d ∷ ds) (A .power-small) all)
 
-  signed-back : (s : Sign) (ds : List ℕ) → Some ds → AreDigits (G .power) ds → signedExponent (G .power) (signBytes s ++ map digitByte ds) ≡ found (exponent s ds)
+  signed-back : (s : Sign) (ds : List ℕ) → Some ds → AreDigits (G .exponentRadix) ds → signedExponent (G .exponentRadix) (signBytes s ++ map digitByte ds) ≡ found (exponent s ds)
   signed-back unsigned [] n all = absurd n
   signed-back unsigned (d ∷ ds) n all =
       let k = byte-no-sign d (lt-of-lt-of-le (all .0) (A .power-small)) in
-      no-sign (G .power) (digitByte d) (map digitByte ds) (k .0) (k .1) ∙ all-digits unsigned (d ∷ ds) tt all
+      no-sign (G .exponentRadix) (digitByte d) (map digitByte ds) (k .0) (k .1) ∙ all-digits unsigned (d ∷ ds) tt all
   signed-back plus ds n all = unfold signedExponent in all-digits plus ds n all
   signed-back minus ds n all = unfold signedExponent in all-digits minus ds n all
 
-  pub tail-back : (τ : Tail) → TailFits (G .power) τ → parseTail G (tailBytes G τ) ≡ found τ
+  pub tail-back : (τ : Tail) → TailFits (G .exponentRadix) τ → parseTail G (tailBytes G τ) ≡ found τ
   unfolding parseTail
   tail-back absent h = refl
   tail-back (exponent s ds) h = rw (eq-eqb (G .mark) (G .mark) refl) (signed-back s ds (h .0) (h .1))
@@ -65,7 +65,7 @@ module _ (G : Grammar) (A : Apart G) where
   no-point whole absent = refl
   no-point whole (exponent s ds) = rw (A .differ)
 
-  fraction-back : (whole : List ℕ) (dot : Bool) (ds : List ℕ) (τ : Tail) → FractionFits dot ds → AreDigits (G .radix) ds → TailFits (G .power) τ
+  fraction-back : (whole : List ℕ) (dot : Bool) (ds : List ℕ) (τ : Tail) → FractionFits dot ds → AreDigits (G .radix) ds → TailFits (G .exponentRadix) τ
       → afterWhole G whole (fractionBytes G dot ds ++ tailBytes G τ) ≡ found (withTail whole dot ds τ)
   fraction-back whole true ds τ fits all h =
       unfold afterWhole in

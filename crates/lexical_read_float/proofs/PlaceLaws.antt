@@ -101,110 +101,110 @@ module _ (G : Grammar) (A : Apart G) where
   -- the exponent's digits behind the sign s
   abbrev OfDigits : Sign → List ℕ → Parsed Tail → Type 0
   OfDigits s t (found absent) = ⊥
-  OfDigits s t (found (exponent z ds)) = (z ≡ s) × (Some ds × AreDigits (G .power) ds) × (map digitByte ds ≡ t)
-  OfDigits s t (stuck left) = Stuck (exponentDigits (G .power) s) t left
+  OfDigits s t (found (exponent z ds)) = (z ≡ s) × (Some ds × AreDigits (G .exponentRadix) ds) × (map digitByte ds ≡ t)
+  OfDigits s t (stuck left) = Stuck (exponentDigits (G .exponentRadix) s) t left
 
   zero-digit : (radix : ℕ) → 0 < radix → radix ≤ 32 → run radix (48 ∷ []) ≡ record { got = 0 ∷ []; left = [] }
   unfolding digitByte
   zero-digit radix p h = run-all radix (0 ∷ []) h (p, tt)
 
-  of-digits : (s : Sign) (t : List ℕ) → OfDigits s t (exponentDigits (G .power) s t)
-  of-digits s t = go (run (G .power) t .got) (run (G .power) t .left) (is-run (G .power) t .digits) (is-run (G .power) t .ends) (is-run (G .power) t .splits)
+  of-digits : (s : Sign) (t : List ℕ) → OfDigits s t (exponentDigits (G .exponentRadix) s t)
+  of-digits s t = go (run (G .exponentRadix) t .got) (run (G .exponentRadix) t .left) (is-run (G .exponentRadix) t .digits) (is-run (G .exponentRadix) t .ends) (is-run (G .exponentRadix) t .splits)
     where
-      by-run : (u got left : List ℕ) → run (G .power) u ≡ record { got = got; left = left } → exponentDigits (G .power) s u ≡ allDigits s got left
+      by-run : (u got left : List ℕ) → run (G .exponentRadix) u ≡ record { got = got; left = left } → exponentDigits (G .exponentRadix) s u ≡ allDigits s got left
       by-run u got left e = ap (λ (r : Run). allDigits s (r .got) (r .left)) e
 
-      go : (got left : List ℕ) → AreDigits (G .power) got → Ends (G .power) left → map digitByte got ++ left ≡ t → OfDigits s t (allDigits s got left)
+      go : (got left : List ℕ) → AreDigits (G .exponentRadix) got → Ends (G .exponentRadix) left → map digitByte got ++ left ≡ t → OfDigits s t (allDigits s got left)
       go [] left d e p = record {
         start = [];
         splits = p;
         rest = 48 ∷ [];
-        continues = subst IsFound (sym (by-run (48 ∷ []) (0 ∷ []) [] (zero-digit (G .power) (A .power-pos) (A .power-small)))) tt;
-        stays = λ x xs ys q. by-run (x ∷ ys) [] (x ∷ ys) (run-stops (G .power) x ys (subst (Ends (G .power)) q e));
+        continues = subst IsFound (sym (by-run (48 ∷ []) (0 ∷ []) [] (zero-digit (G .exponentRadix) (A .power-pos) (A .power-small)))) tt;
+        stays = λ x xs ys q. by-run (x ∷ ys) [] (x ∷ ys) (run-stops (G .exponentRadix) x ys (subst (Ends (G .exponentRadix)) q e));
       }
       go (g ∷ gs) [] d e p = (refl, (tt, d), sym (append-nil (map digitByte (g ∷ gs))) ∙ p)
       go (g ∷ gs) (y ∷ left) d e p = record {
         start = map digitByte (g ∷ gs);
         splits = p;
         rest = [];
-        continues = subst IsFound (sym (by-run _ (g ∷ gs) [] (run-digits (G .power) (g ∷ gs) [] (A .power-small) d tt))) tt;
-        stays = λ x xs ys q. by-run _ (g ∷ gs) (x ∷ ys) (run-digits (G .power) (g ∷ gs) (x ∷ ys) (A .power-small) d (subst (Ends (G .power)) q e));
+        continues = subst IsFound (sym (by-run _ (g ∷ gs) [] (run-digits (G .exponentRadix) (g ∷ gs) [] (A .power-small) d tt))) tt;
+        stays = λ x xs ys q. by-run _ (g ∷ gs) (x ∷ ys) (run-digits (G .exponentRadix) (g ∷ gs) (x ∷ ys) (A .power-small) d (subst (Ends (G .exponentRadix)) q e));
       }
 
   -- with the sign
   abbrev OfSigned : List ℕ → Parsed Tail → Type 0
   OfSigned t (found absent) = ⊥
-  OfSigned t (found (exponent z ds)) = (Some ds × AreDigits (G .power) ds) × (signBytes z ++ map digitByte ds ≡ t)
-  OfSigned t (stuck left) = Stuck (signedExponent (G .power)) t left
+  OfSigned t (found (exponent z ds)) = (Some ds × AreDigits (G .exponentRadix) ds) × (signBytes z ++ map digitByte ds ≡ t)
+  OfSigned t (stuck left) = Stuck (signedExponent (G .exponentRadix)) t left
 
   abbrev NoSign : ℕ → Type 0
   NoSign x = (eqb x 43 ≡ false) × (eqb x 45 ≡ false)
 
   -- a sign in front
-  sign-in-front : (s : Sign) (x : ℕ) (t : List ℕ) (p : Parsed Tail) → x ∷ t ≡ signBytes s ++ t → ((u : List ℕ) → signedExponent (G .power) (x ∷ u) ≡ exponentDigits (G .power) s u) → OfDigits s t p → OfSigned (x ∷ t) p
+  sign-in-front : (s : Sign) (x : ℕ) (t : List ℕ) (p : Parsed Tail) → x ∷ t ≡ signBytes s ++ t → ((u : List ℕ) → signedExponent (G .exponentRadix) (x ∷ u) ≡ exponentDigits (G .exponentRadix) s u) → OfDigits s t p → OfSigned (x ∷ t) p
   sign-in-front s x t (found absent) b same h = h
   sign-in-front s x t (found (exponent z ds)) b same h = (h .1, ap (λ (y : Sign). signBytes y ++ map digitByte ds) (h .0) ∙ ap (λ (l : List ℕ). signBytes s ++ l) (h .2) ∙ sym b)
-  sign-in-front s x t (stuck left) b same h = in-front (exponentDigits (G .power) s) (signedExponent (G .power)) x t left same h
+  sign-in-front s x t (stuck left) b same h = in-front (exponentDigits (G .exponentRadix) s) (signedExponent (G .exponentRadix)) x t left same h
 
-  digit-no-sign : (u : List ℕ) → IsFound (exponentDigits (G .power) unsigned u) → Head NoSign u
+  digit-no-sign : (u : List ℕ) → IsFound (exponentDigits (G .exponentRadix) unsigned u) → Head NoSign u
   digit-no-sign [] h = tt
-  digit-no-sign (x ∷ xs) h = go (digitIn (G .power) x) refl
+  digit-no-sign (x ∷ xs) h = go (digitIn (G .exponentRadix) x) refl
     where
-      go : (o : Option ℕ) → digitIn (G .power) x ≡ o → NoSign x
-      go none e = absurd (subst (λ (r : Run). IsFound (allDigits unsigned (r .got) (r .left))) (run-stops (G .power) x xs e) h)
+      go : (o : Option ℕ) → digitIn (G .exponentRadix) x ≡ o → NoSign x
+      go none e = absurd (subst (λ (r : Run). IsFound (allDigits unsigned (r .got) (r .left))) (run-stops (G .exponentRadix) x xs e) h)
       go (some d) e =
-          let k = in-digit (G .power) x d e in
+          let k = in-digit (G .exponentRadix) x d e in
           subst NoSign (k .0) (byte-no-sign d (lt-of-lt-of-le (k .1) (A .power-small)))
 
-  unsigned-same : (u : List ℕ) → Head NoSign u → signedExponent (G .power) u ≡ exponentDigits (G .power) unsigned u
+  unsigned-same : (u : List ℕ) → Head NoSign u → signedExponent (G .exponentRadix) u ≡ exponentDigits (G .exponentRadix) unsigned u
   unsigned-same [] h = unfold signedExponent run in refl
-  unsigned-same (x ∷ xs) h = no-sign (G .power) x xs (h .0) (h .1)
+  unsigned-same (x ∷ xs) h = no-sign (G .exponentRadix) x xs (h .0) (h .1)
 
   no-sign-in-front : (t : List ℕ) (p : Parsed Tail) → Head NoSign t → OfDigits unsigned t p → OfSigned t p
   no-sign-in-front t (found absent) n h = h
   no-sign-in-front t (found (exponent z ds)) n h = (h .1, ap (λ (y : Sign). signBytes y ++ map digitByte ds) (h .0) ∙ h .2)
-  no-sign-in-front t (stuck left) n h = agreeing NoSign (exponentDigits (G .power) unsigned) (signedExponent (G .power)) t left unsigned-same digit-no-sign n h
+  no-sign-in-front t (stuck left) n h = agreeing NoSign (exponentDigits (G .exponentRadix) unsigned) (signedExponent (G .exponentRadix)) t left unsigned-same digit-no-sign n h
 
-  of-signed : (t : List ℕ) → OfSigned t (signedExponent (G .power) t)
+  of-signed : (t : List ℕ) → OfSigned t (signedExponent (G .exponentRadix) t)
   unfolding signedExponent
   of-signed [] = record {
     start = [];
     splits = refl;
     rest = 48 ∷ [];
-    continues = subst (λ (r : Run). IsFound (allDigits unsigned (r .got) (r .left))) (sym (zero-digit (G .power) (A .power-pos) (A .power-small))) tt;
+    continues = subst (λ (r : Run). IsFound (allDigits unsigned (r .got) (r .left))) (sym (zero-digit (G .exponentRadix) (A .power-pos) (A .power-small))) tt;
     stays = λ x xs ys e. absurd (let z : _≡_ {A = ℕ} 0 1 = cc in omega arith);
   }
   of-signed (x ∷ xs) = go (eqb x 43) refl (eqb x 45) refl
     where
       go : (a : Bool) → eqb x 43 ≡ a → (b : Bool) → eqb x 45 ≡ b
-          → OfSigned (x ∷ xs) (cond a (exponentDigits (G .power) plus xs) (cond b (exponentDigits (G .power) minus xs) (exponentDigits (G .power) unsigned (x ∷ xs))))
-      go true p b q = sign-in-front plus x xs (exponentDigits (G .power) plus xs) (ap {B = List ℕ} (λ y. y ∷ xs) (eqb-true x 43 p)) (λ u. rw p) (of-digits plus xs)
-      go false p true q = sign-in-front minus x xs (exponentDigits (G .power) minus xs) (ap {B = List ℕ} (λ y. y ∷ xs) (eqb-true x 45 q)) (λ u. rw (p, q)) (of-digits minus xs)
-      go false p false q = no-sign-in-front (x ∷ xs) (exponentDigits (G .power) unsigned (x ∷ xs)) (p, q) (of-digits unsigned (x ∷ xs))
+          → OfSigned (x ∷ xs) (cond a (exponentDigits (G .exponentRadix) plus xs) (cond b (exponentDigits (G .exponentRadix) minus xs) (exponentDigits (G .exponentRadix) unsigned (x ∷ xs))))
+      go true p b q = sign-in-front plus x xs (exponentDigits (G .exponentRadix) plus xs) (ap {B = List ℕ} (λ y. y ∷ xs) (eqb-true x 43 p)) (λ u. rw p) (of-digits plus xs)
+      go false p true q = sign-in-front minus x xs (exponentDigits (G .exponentRadix) minus xs) (ap {B = List ℕ} (λ y. y ∷ xs) (eqb-true x 45 q)) (λ u. rw (p, q)) (of-digits minus xs)
+      go false p false q = no-sign-in-front (x ∷ xs) (exponentDigits (G .exponentRadix) unsigned (x ∷ xs)) (p, q) (of-digits unsigned (x ∷ xs))
 
   -- with the mark
   abbrev OfTail : List ℕ → Parsed Tail → Type 0
-  OfTail t (found τ) = TailFits (G .power) τ × (tailBytes G τ ≡ t)
+  OfTail t (found τ) = TailFits (G .exponentRadix) τ × (tailBytes G τ ≡ t)
   OfTail t (stuck left) = Stuck (parseTail G) t left
 
   mark-in-front : (t : List ℕ) (p : Parsed Tail) → OfSigned t p → OfTail (G .mark ∷ t) p
   mark-in-front t (found absent) h = absurd h
   mark-in-front t (found (exponent z ds)) h = (h .0, ap {B = List ℕ} (λ l. G .mark ∷ l) (h .1))
-  mark-in-front t (stuck left) h = in-front (signedExponent (G .power)) (parseTail G) (G .mark) t left (λ u. unfold parseTail in rw (eq-eqb (G .mark) (G .mark) refl)) h
+  mark-in-front t (stuck left) h = in-front (signedExponent (G .exponentRadix)) (parseTail G) (G .mark) t left (λ u. unfold parseTail in rw (eq-eqb (G .mark) (G .mark) refl)) h
 
   of-tail : (t : List ℕ) → OfTail t (parseTail G t)
   unfolding parseTail
   of-tail [] = (tt, refl)
   of-tail (x ∷ xs) = go (eqb x (G .mark)) refl
     where
-      go : (b : Bool) → eqb x (G .mark) ≡ b → OfTail (x ∷ xs) (cond b (signedExponent (G .power) xs) (stuck (x ∷ xs)))
-      go true e = subst (λ (y : ℕ). OfTail (y ∷ xs) (signedExponent (G .power) xs)) (sym (eqb-true x (G .mark) e)) (mark-in-front xs (signedExponent (G .power) xs) (of-signed xs))
+      go : (b : Bool) → eqb x (G .mark) ≡ b → OfTail (x ∷ xs) (cond b (signedExponent (G .exponentRadix) xs) (stuck (x ∷ xs)))
+      go true e = subst (λ (y : ℕ). OfTail (y ∷ xs) (signedExponent (G .exponentRadix) xs)) (sym (eqb-true x (G .mark) e)) (mark-in-front xs (signedExponent (G .exponentRadix) xs) (of-signed xs))
       go false e = record {
         start = [];
         splits = refl;
         rest = [];
         continues = tt;
-        stays = λ y ys zs q. let same : x ≡ y = cc in subst (λ (z : ℕ). cond (eqb z (G .mark)) (signedExponent (G .power) zs) (stuck (z ∷ zs)) ≡ stuck (z ∷ zs)) same (rw e);
+        stays = λ y ys zs q. let same : x ≡ y = cc in subst (λ (z : ℕ). cond (eqb z (G .mark)) (signedExponent (G .exponentRadix) zs) (stuck (z ∷ zs)) ≡ stuck (z ∷ zs)) same (rw e);
       }
 
   -- what is read behind the digits in front: perhaps the point and digits, perhaps an exponent
@@ -212,7 +212,7 @@ module _ (G : Grammar) (A : Apart G) where
     pub whole-is : s .whole ≡ whole
     pub fits : FractionFits (s .dot) (s .fraction)
     pub digits : AreDigits (G .radix) (s .fraction)
-    pub tail : TailFits (G .power) (s .tail)
+    pub tail : TailFits (G .exponentRadix) (s .tail)
     pub bytes : fractionBytes G (s .dot) (s .fraction) ++ tailBytes G (s .tail) ≡ t
 
   abbrev OfWhole : List ℕ → List ℕ → Parsed Shape → Type 0
@@ -229,7 +229,7 @@ module _ (G : Grammar) (A : Apart G) where
   tail-head First m [] h = tt
   tail-head First m (x ∷ xs) h = go (eqb x (G .mark)) refl h
     where
-      go : (b : Bool) → eqb x (G .mark) ≡ b → IsFound (cond b (signedExponent (G .power) xs) (stuck (x ∷ xs))) → First x
+      go : (b : Bool) → eqb x (G .mark) ≡ b → IsFound (cond b (signedExponent (G .exponentRadix) xs) (stuck (x ∷ xs))) → First x
       go true e k = subst First (sym (eqb-true x (G .mark) e)) m
       go false e k = absurd k
 

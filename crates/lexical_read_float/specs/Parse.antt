@@ -39,18 +39,18 @@ allDigits s (d ∷ ds) [] = found (exponent s (d ∷ ds))
 allDigits s (d ∷ ds) (x ∷ xs) = stuck (x ∷ xs)
 
 abbrev pub exponentDigits : ℕ → Sign → List ℕ → Parsed Tail
-exponentDigits power s t = allDigits s (run power t .got) (run power t .left)
+exponentDigits exponentRadix s t = allDigits s (run exponentRadix t .got) (run exponentRadix t .left)
 
 -- a "+" or "-" or neither
 unfoldable pub signedExponent : ℕ → List ℕ → Parsed Tail
-signedExponent power [] = stuck []
-signedExponent power (x ∷ xs) =
-    cond (eqb x 43) (exponentDigits power plus xs) (cond (eqb x 45) (exponentDigits power minus xs) (exponentDigits power unsigned (x ∷ xs)))
+signedExponent exponentRadix [] = stuck []
+signedExponent exponentRadix (x ∷ xs) =
+    cond (eqb x 43) (exponentDigits exponentRadix plus xs) (cond (eqb x 45) (exponentDigits exponentRadix minus xs) (exponentDigits exponentRadix unsigned (x ∷ xs)))
 
 -- optionally mark and exponent
 unfoldable pub parseTail : Grammar → List ℕ → Parsed Tail
 parseTail G [] = found absent
-parseTail G (x ∷ xs) = cond (eqb x (G .mark)) (signedExponent (G .power) xs) (stuck (x ∷ xs))
+parseTail G (x ∷ xs) = cond (eqb x (G .mark)) (signedExponent (G .exponentRadix) xs) (stuck (x ∷ xs))
 
 abbrev pub withTail : List ℕ → Bool → List ℕ → Tail → Shape
 withTail whole dot fraction tail = record { whole = whole; dot = dot; fraction = fraction; tail = tail }

@@ -20,12 +20,12 @@ use Rattle.lexical_read_float.specs.Parse.{shapeOf}
 use Rattle.lexical_read_float.specs.Round.{tooLarge}
 
 abbrev pub grammarOf : NumberFormat → Options → Grammar
-grammarOf F o = record { radix = F .«mantissa_radix»; power = F .«exponent_radix»; point = o .«decimal_point»; mark = o .exponent }
+grammarOf F o = record { radix = F .«mantissa_radix»; exponentRadix = F .«exponent_radix»; point = o .«decimal_point»; mark = o .exponent }
 
 -- ---- the value: the digits before and after the point, read in the radix, times base to the signed exponent, read in exponent radix, 0 if absent
 abbrev pub magnitude : ℕ → Tail → ℕ
-magnitude power absent = 0
-magnitude power (exponent s ds) = digitsValue power ds
+magnitude exponentRadix absent = 0
+magnitude exponentRadix (exponent s ds) = digitsValue exponentRadix ds
 
 abbrev pub isNegative : Tail → Bool
 isNegative absent = false
@@ -34,9 +34,9 @@ isNegative (exponent plus ds) = false
 isNegative (exponent minus ds) = true
 
 -- It is the fraction numerator / denominator. The radix is 2 ^ b, so each digit behind the point divides by 2 ^ b; the base is 2 ^ c.
-module _ (row : Pair) (power : ℕ) (s : Shape) where
+module _ (row : Pair) (exponentRadix : ℕ) (s : Shape) where
   abbrev pub basePower : ℕ
-  basePower = 2 ^ (row .c * magnitude power (s .tail))
+  basePower = 2 ^ (row .c * magnitude exponentRadix (s .tail))
 
   unfoldable pub numerator : ℕ
   numerator = digitsValue (2 ^ row .b) (s .whole ++ s .fraction) * cond (isNegative (s .tail)) 1 basePower
@@ -51,7 +51,7 @@ floatOf f num den = checked ((11, tooLarge f num den) ∷ []) (done (round f fal
 
 -- 10 exponent magnitude above 32,767
 unfoldable pub exponentTooLarge : ℕ → Tail → Bool
-exponentTooLarge power tail = ltb 32767 (magnitude power tail)
+exponentTooLarge exponentRadix tail = ltb 32767 (magnitude exponentRadix tail)
 
 -- place its first digit: the exponent's digits are the last of a text
 unfoldable pub exponentPlace : List ℕ → Tail → ℕ
@@ -60,15 +60,15 @@ exponentPlace t (exponent s ds) = length t - length ds
 
 -- decided before the power is formed, so that a long exponent evaluates at once
 unfoldable pub valueOf : Format → Pair → ℕ → List ℕ → Shape → Answer Float
-valueOf f row power t s =
-    elim (exponentTooLarge power (s .tail)) [
+valueOf f row exponentRadix t s =
+    elim (exponentTooLarge exponentRadix (s .tail)) [
       | true ↦ refused 10 (exponentPlace t (s .tail))
-      | false ↦ floatOf f (numerator row power s) (denominator row power s)
+      | false ↦ floatOf f (numerator row exponentRadix s) (denominator row exponentRadix s)
     ]
 
 -- 12 text above 4,096 bytes; 9 wrong shape
 unfoldable pub readText : Format → Grammar → List ℕ → Pair → Answer Float
-readText f G t row = checked ((12, ltb 4096 (length t)) ∷ []) (andThen (shapeOf G t) (valueOf f row (G .power) t))
+readText f G t row = checked ((12, ltb 4096 (length t)) ∷ []) (andThen (shapeOf G t) (valueOf f row (G .exponentRadix) t))
 
 -- 1, 2, 3
 unfoldable pub readFloat : Format → NumberFormat → Options → List ℕ → Answer Float

@@ -8,7 +8,7 @@ use Rattle.lexical_util.specs.Digit.{digitByte, AreDigits}
 -- what a text is read by: the radix of its digits, the exponent radix, the point and the mark
 pub record Grammar : Type 0 where
   pub radix : ℕ
-  pub power : ℕ
+  pub exponentRadix : ℕ
   pub point : ℕ
   pub mark : ℕ
 
@@ -57,15 +57,15 @@ FractionFits true ds = Unit {0}
 FractionFits false ds = ds ≡ []
 
 abbrev pub TailFits : ℕ → Tail → Type 0
-TailFits power absent = Unit {0}
-TailFits power (exponent s ds) = Some ds × AreDigits power ds
+TailFits exponentRadix absent = Unit {0}
+TailFits exponentRadix (exponent s ds) = Some ds × AreDigits exponentRadix ds
 
 pub record WellFormed (G : Grammar) (s : Shape) : Type 0 where
   pub some-whole : Some (s .whole)
   pub whole-digits : AreDigits (G .radix) (s .whole)
   pub fraction-fits : FractionFits (s .dot) (s .fraction)
   pub fraction-digits : AreDigits (G .radix) (s .fraction)
-  pub tail-fits : TailFits (G .power) (s .tail)
+  pub tail-fits : TailFits (G .exponentRadix) (s .tail)
 
 -- t is the text of a shape
 abbrev pub WellShaped : Grammar → List ℕ → Type 0

@@ -4,10 +4,10 @@ use mathlib.Core.Path.{_≡_, refl, sym, ap, _∙_, subst}
 use mathlib.Core.Bool.{Bool, true, false}
 use mathlib.Core.List.{List, [], _∷_, _++_, map}
 use native.Mathlib.Omega.{arith}
-use native.Mathlib.Nat.{zero-lt-suc}
+use native.Mathlib.Nat.{zero-lt-suc, mul-assoc, mul-div-cancel}
 use borrow.Author.Tests.{ltb-true, ltb-false}
 use lib.Dec.{T, ltb}
-use lib.IntN.{ℤ, pos}
+use lib.IntN.{ℤ, pos, natAbs}
 use lib.Pow.{pow-pos}
 use lib.ListN.{length, getD, List·getD-map}
 use lib.Ieee.{Float, nan, inf, fin, Format, fits}
@@ -25,7 +25,7 @@ use Rattle.lexical_format.proofs.FormatLaws.{Writable, writable}
 use Rattle.lexical_write_float.specs.Value.{Value, modulo, exactDigits}
 use Rattle.lexical_write_float.specs.Write.{limitedText, floatText, writeText}
 use Rattle.lexical_write_float.specs.Limit.{limited}
-use Rattle.lexical_write_float.specs.Claims.{FirstPlace, FirstDigit, LastDigit, LongestText}
+use Rattle.lexical_write_float.specs.Claims.{FirstPlace, FirstDigit, LastDigit, LongestText, WholePower}
 use Rattle.lexical_write_float.proofs.ValueLaws.{first-place as place-is, first-digit as first-is, last-digit as last-is}
 use Rattle.lexical_write_float.proofs.RangeLaws.{Ranged, in-range, limited-ranged}
 use Rattle.lexical_write_float.proofs.LengthLaws.{text-length}
@@ -82,3 +82,10 @@ longest-text f F o x t h e = go (writingFormat F o) refl x h e
     go (done row) w (inf s) h e = absurd (refused-done 7 0 t e)
     go (done row) w (fin true m d) h e = absurd (refused-done 7 0 t e)
     go (done row) w (fin false m d) h e = rw (done-same (limitedText F o row m d) t e) at (limited-length f F o row (writable F o row w) m d h)
+
+pub whole-power : WholePower
+whole-power F o row p w =
+    let P = writable F o row w .reads .pair in
+    let g = row .b / row .c in
+    let e : natAbs p * row .b ≡ natAbs p * g * row .c = ap (λ (b : ℕ). natAbs p * b) (sym (P .whole)) ∙ sym (mul-assoc (natAbs p) g (row .c)) in
+    rw (e, mul-div-cancel (natAbs p * g) (P .base-bits))

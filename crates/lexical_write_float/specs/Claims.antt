@@ -1,17 +1,19 @@
 -- What the laws of writing say. Statements only; `WriteLaws` proves them.
-use Prim.Native.Nat.{ℕ, _-_, _%_, _≤_, _<_}
+use Prim.Native.Nat.{ℕ, _-_, _*_, _%_, _≤_, _<_}
 use mathlib.Core.Path.{_≡_}
 use mathlib.Core.Logic.{_≢_}
 use mathlib.Core.List.{List}
 use lib.Dec.{T}
-use lib.IntN.{ℤ, pos, _+ℤ_}
+use lib.IntN.{ℤ, pos, natAbs, _+ℤ_}
 use lib.Signed.{shrZ}
 use lib.ListN.{length, getD}
 use lib.Ieee.{Float, Format, fits}
 use Rattle.lexical_util.specs.Answer.{Answer, done}
-use Rattle.lexical_util.specs.Num.{scale, place}
+use Rattle.lexical_util.specs.Num.{scale, place, power}
+use Rattle.lexical_format.specs.declared.format.Pair.{Pair}
 use Rattle.lexical_format.specs.declared.format.NumberFormat.{NumberFormat}
 use Rattle.lexical_format.specs.declared.options.Options.{Options}
+use Rattle.lexical_format.specs.Format.{writingFormat}
 use Rattle.lexical_write_float.specs.Value.{exactDigits}
 use Rattle.lexical_write_float.specs.Write.{writeText}
 
@@ -30,3 +32,7 @@ LastDigit = (b m : ℕ) (e : ℤ) → 0 < b → m % 2 ≡ 1 → getD (exactDigit
 -- no text passes 2,275 bytes, with a digit limit or without, at either width
 abbrev pub LongestText : Type 0
 LongestText = (f : Format) (F : NumberFormat) (o : Options) (x : Float) (t : List ℕ) → T (fits f x) → writeText F o x ≡ done t → length t ≤ 2275
+
+-- p * b / c is whole
+abbrev pub WholePower : Type 0
+WholePower = (F : NumberFormat) (o : Options) (row : Pair) (p : ℤ) → writingFormat F o ≡ done row → power (row .b) (row .c) p * row .c ≡ natAbs p * row .b

@@ -1,12 +1,12 @@
 -- The text of a value under a format: document 01, "Layout". The value m * 2 ^ e is in normal form. Definitions only.
-use Prim.Native.Nat.{ℕ, zero, suc, _+_, _-_, _*_, _/_, max}
+use Prim.Native.Nat.{ℕ, zero, suc, _+_, _-_, max}
 use mathlib.Core.Bool.{Bool, true, false, not, cond, _&&_, _||_}
 use mathlib.Core.List.{List, [], _∷_, _++_}
 use lib.Dec.{ltb}
 use lib.IntN.{ℤ, pos, negsuc, natAbs}
 use lib.Signed.{ltZ}
 use lib.ListN.{length, take, drop, replicate}
-use Rattle.lexical_util.specs.Num.{scale, place}
+use Rattle.lexical_util.specs.Num.{scale, place, power}
 use Rattle.lexical_write_integer.specs.Digits.{numeral}
 use Rattle.lexical_format.specs.declared.format.Pair.{Pair}
 use Rattle.lexical_format.specs.declared.format.NumberFormat.{NumberFormat}
@@ -56,7 +56,7 @@ module _ (F : NumberFormat) (o : Options) where
 
   -- and the magnitude of p * b / c in exponent radix
   unfoldable pub exponentText : Pair → ℤ → List ℕ
-  exponentText row p = o .exponent ∷ (exponentSign p ++ numeral (F .«exponent_radix») (natAbs p * row .b / row .c))
+  exponentText row p = o .exponent ∷ (exponentSign p ++ numeral (F .«exponent_radix») (power (row .b) (row .c) p))
 
   -- ---- negative: "0", point, -p-1 zeros, D, zeros up to the least count
   unfoldable pub negative : List ℕ → ℤ → List ℕ
