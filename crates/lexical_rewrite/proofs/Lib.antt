@@ -1,3 +1,5 @@
 pub mod TextShape
 pub mod WellFormedText
+pub mod DigitRuns
+pub mod Balance
 pub mod WrittenLaws

@@ -71,7 +71,7 @@ pred-is k p = sym (+ℤ-negℤ-cancel (p -ℤ pos (suc k)) (pos 1)) ∙ ap (λ (
 times-pred : (b : ℕ) (x : ℤ) → pos b *ℤ predℤ x +ℤ pos b ≡ pos b *ℤ x
 times-pred b x = ap (λ (z : ℤ). z +ℤ pos b) (*ℤ-comm (pos b) (predℤ x) ∙ predℤ-*ℤ x (pos b)) ∙ -ℤ-+ℤ-cancel (x *ℤ pos b) (pos b) ∙ *ℤ-comm x (pos b)
 
-times-less : (b k : ℕ) (p : ℤ) → pos b *ℤ (p -ℤ pos k) +ℤ pos (b * k) ≡ pos b *ℤ p
+pub times-less : (b k : ℕ) (p : ℤ) → pos b *ℤ (p -ℤ pos k) +ℤ pos (b * k) ≡ pos b *ℤ p
 times-less b zero p = ap₂ (λ (x y : ℤ). x +ℤ y) (ap (λ (z : ℤ). pos b *ℤ z) (+ℤ-idr p)) (ap pos (mul-zero b)) ∙ +ℤ-idr (pos b *ℤ p)
 times-less b (suc k) p =
     ap₂ (λ (x : ℤ) (y : ℕ). pos b *ℤ x +ℤ pos y) (pred-is k p) (mul-suc b k ∙ add-comm (b * k) b)
