@@ -76,7 +76,7 @@ place-is-least F o row t n i e h = go (parse (grammarOf F o) t) refl h
         (sym number, subst (WrongAt (grammarOf F o) t) place (wrong-at (grammarOf F o) (apart F o row e) t left p))
 
 -- ---- the float read
-denominator-pos : (row : Pair) (power : ℕ) (s : Shape) → 0 < denominator row power s
+pub denominator-pos : (row : Pair) (power : ℕ) (s : Shape) → 0 < denominator row power s
 unfolding denominator
 denominator-pos row power s = mul-pos (pow-pos (row .b * length (s .fraction))) (go (isNegative (s .tail)))
   where

@@ -53,7 +53,7 @@ balance b n m x y e p B h w =
     let last : p -ℤ pos n ≡ q = ap (λ (z : ℤ). z -ℤ pos n) h ∙ +ℤ-negℤ-cancel q (pos n) in
     let d : pos b *ℤ q +ℤ pos (b * n) ≡ pos b *ℤ p = ap (λ (z : ℤ). pos b *ℤ z +ℤ pos (b * n)) (sym last) ∙ times-less b n p in
     let swap : pos b *ℤ q +ℤ pos y +ℤ pos (b * n) ≡ pos x +ℤ pos (b * n) =
-        +ℤ-assoc (pos b *ℤ q) (pos y) (pos (b * n)) ∙ ap (λ (z : ℤ). pos b *ℤ q +ℤ z) (+ℤ-comm (pos y) (pos (b * n))) ∙ sym (+ℤ-assoc (pos b *ℤ q) (pos (b * n)) (pos y)) ∙ ap (λ (z : ℤ). z +ℤ pos y) d ∙ sym (balanced-is b n x y p w) in
+    +ℤ-assoc (pos b *ℤ q) (pos y) (pos (b * n)) ∙ ap (λ (z : ℤ). pos b *ℤ q +ℤ z) (+ℤ-comm (pos y) (pos (b * n))) ∙ sym (+ℤ-assoc (pos b *ℤ q) (pos (b * n)) (pos y)) ∙ ap (λ (z : ℤ). z +ℤ pos y) d ∙ sym (balanced-is b n x y p w) in
     let least : pos b *ℤ q +ℤ pos y ≡ pos x = sym (+ℤ-negℤ-cancel (pos b *ℤ q +ℤ pos y) (pos (b * n))) ∙ ap (λ (z : ℤ). z -ℤ pos (b * n)) swap ∙ +ℤ-negℤ-cancel (pos x) (pos (b * n)) in
     equal-values m x y r e
     (ap (λ (z : ℤ). z +ℤ pos y) (sym (floor-modulo b e B)) ∙ +ℤ-assoc (pos b *ℤ q) (pos r) (pos y) ∙ ap (λ (z : ℤ). pos b *ℤ q +ℤ z) (+ℤ-comm (pos r) (pos y)) ∙ sym (+ℤ-assoc (pos b *ℤ q) (pos y) (pos r))
