@@ -1,15 +1,14 @@
 -- What is known of a format that passed its check. Assumes nothing.
-use Prim.Native.Nat.{ℕ, zero, suc, _+_, _*_, _/_, _%_, _^_, _≤_, _<_}
+use Prim.Native.Nat.{ℕ, _*_, _/_, _^_, _≤_, _<_}
 use mathlib.Core.Path.{_≡_, refl, sym, ap, _∙_, subst}
 use mathlib.Core.Bool.{Bool, true, false, not, cond, _&&_, _||_}
 use mathlib.Core.List.{List, [], _∷_, _++_}
 use mathlib.Core.Option.{Option, none, some}
 use native.Mathlib.Omega.{arith}
-use borrow.Author.Tests.{eqb-true, ltb-true, ltb-false, leb-true}
+use borrow.Author.Tests.{eqb-true, ltb-false}
 use lib.Dec.{T, ltb, leb, eqb, eqb→eq, ltb→lt, leb→le}
 use lib.Ieee.Fits.{and-l, and-r}
-use lib.Ieee.Bits.{is-true}
-use Rattle.lexical_util.specs.Answer.{Answer, done, refused, Check, checked}
+use Rattle.lexical_util.specs.Answer.{done, refused, Check, checked}
 use Rattle.lexical_util.specs.Digit.{isDigit, isRadix}
 use Rattle.lexical_util.proofs.AnswerLaws.{refused-done, Passed, passed}
 use Rattle.lexical_format.specs.declared.format.Pair.{Pair}

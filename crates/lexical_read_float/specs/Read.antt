@@ -1,5 +1,5 @@
 -- What a call to read a float answers: document 01, "Reader" and "Read a float". Both widths by the format. Definitions only.
-use Prim.Native.Nat.{ℕ, _+_, _-_, _*_, _^_}
+use Prim.Native.Nat.{ℕ, _-_, _*_, _^_}
 use mathlib.Core.Bool.{Bool, true, false, cond}
 use mathlib.Core.List.{List, [], _∷_, _++_}
 use lib.Dec.{ltb}
@@ -15,7 +15,7 @@ use Rattle.lexical_read_float.specs.declared.read.ReadF64.{ReadF64}
 use Rattle.lexical_read_float.specs.declared.read.ReadF64.the-variants.{Float as Float64, Refused as Refused64}
 use Rattle.lexical_read_float.specs.declared.read.ReadF32.{ReadF32}
 use Rattle.lexical_read_float.specs.declared.read.ReadF32.the-variants.{Float as Float32, Refused as Refused32}
-use Rattle.lexical_read_float.specs.Shape.{Grammar, Sign, unsigned, plus, minus, Tail, absent, exponent, Shape}
+use Rattle.lexical_read_float.specs.Shape.{Grammar, unsigned, plus, minus, Tail, absent, exponent, Shape}
 use Rattle.lexical_read_float.specs.Parse.{shapeOf}
 use Rattle.lexical_read_float.specs.Round.{tooLarge}
 

@@ -4,7 +4,7 @@ use mathlib.Core.Path.{_≡_}
 use mathlib.Core.Logic.{_≢_}
 use mathlib.Core.Bool.{Bool}
 use lib.Dec.{T, ltb}
-use lib.Ieee.{Float, Format, prec, emax, fits, round, toBits}
+use lib.Ieee.{Float, Format, prec, emax, fits, toBits}
 use lib.Ieee.Exact.{HasValue}
 use lib.Ieee.Positive.{num, den}
 use lib.Ieee.Scale.{finite}

@@ -1,7 +1,7 @@
 -- Exponents of two in balance: a text's value is N * 2 ^ x / 2 ^ y, a float's m * 2 ^ e, and they are equal once x - y is b times the last place of D. Assumes nothing.
 use Prim.Native.Nat.{ℕ, zero, suc, _+_, _-_, _*_, _^_, _≤_, _<_}
-use mathlib.Core.Path.{_≡_, refl, sym, ap, _∙_}
-use native.Mathlib.Nat.{mul-assoc, mul-one, lt-of-not-le, add-zero}
+use mathlib.Core.Path.{_≡_, sym, ap, _∙_}
+use native.Mathlib.Nat.{mul-assoc, mul-one, lt-of-not-le}
 use native.Mathlib.Decide.{decLe}
 use native.Mathlib.Omega.{arith}
 use borrow.Author.Tests.{lt-ltb, le-ltb}

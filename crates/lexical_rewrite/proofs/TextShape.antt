@@ -1,12 +1,10 @@
 -- Every text that is written is the text of a shape, which the format's grammar has. Assumes nothing.
-use Prim.Native.Nat.{ℕ, zero, suc, _+_, _-_, _*_, _/_, _^_, _≤_, _<_, max}
-use mathlib.Core.Path.{_≡_, refl, sym, ap, ap₂, _∙_, subst}
+use Prim.Native.Nat.{ℕ, zero, suc, _+_, _-_, _*_, _/_, _^_, max}
+use mathlib.Core.Path.{_≡_, refl, ap, _∙_}
 use mathlib.Core.Bool.{Bool, true, false, not, cond, _&&_}
 use mathlib.Core.List.{List, [], _∷_, _++_, map, append-assoc, append-nil}
-use native.Mathlib.Omega.{arith}
-use lib.Dec.{ltb, leb·suc-zero}
+use lib.Dec.{ltb}
 use lib.IntN.{ℤ, pos, negsuc, natAbs}
-use lib.Signed.{ltZ}
 use lib.ListN.{length, take, drop, replicate, length-map}
 use Rattle.lexical_util.specs.Digit.{digitByte}
 use Rattle.lexical_util.specs.Num.{scale, place}
@@ -18,8 +16,8 @@ use Rattle.lexical_format.specs.declared.options.Options.{Options}
 use Rattle.lexical_write_float.specs.declared.layout.Layout.{Layout}
 use Rattle.lexical_write_float.specs.declared.layout.Layout.the-variants.{Scientific, Negative, Positive}
 use Rattle.lexical_write_float.specs.Value.{modulo, exactDigits}
-use Rattle.lexical_write_float.specs.Text.{zeros, point, least, trim, isScientific, layoutOf, scientific, exponentSign, exponentText, negative, positive, laidOut, digitsSoFar, text}
-use Rattle.lexical_read_float.specs.Shape.{Grammar, Sign, unsigned, plus, minus, Tail, absent, exponent, Shape, signBytes, tailBytes, fractionBytes, print}
+use Rattle.lexical_write_float.specs.Text.{zeros, point, least, trim, layoutOf, scientific, exponentSign, exponentText, negative, positive, laidOut, digitsSoFar, text}
+use Rattle.lexical_read_float.specs.Shape.{Grammar, Sign, unsigned, plus, minus, Tail, absent, exponent, Shape, signBytes, tailBytes, print}
 use Rattle.lexical_read_float.specs.Parse.{withTail}
 use Rattle.lexical_read_float.specs.Read.{grammarOf}
 

@@ -1,6 +1,6 @@
 -- The text of a value has exactly that value. Assumes nothing.
-use Prim.Native.Nat.{ℕ, zero, suc, _+_, _-_, _*_, _/_, _^_, _≤_, _<_, max}
-use mathlib.Core.Path.{_≡_, refl, sym, ap, ap₂, _∙_, subst}
+use Prim.Native.Nat.{ℕ, zero, suc, _+_, _-_, _*_, _/_, _^_, _<_, max}
+use mathlib.Core.Path.{_≡_, refl, sym, ap, ap₂, _∙_}
 use mathlib.Core.Bool.{Bool, true, false, not, cond, _&&_}
 use mathlib.Core.List.{List, [], _∷_, _++_, append-assoc, append-nil}
 use native.Mathlib.Nat.{mul-assoc, mul-comm, mul-zero, zero-mul, mul-div-cancel, zero-lt-suc}
@@ -9,7 +9,7 @@ use borrow.Author.Tests.{ltb-true, ltb-false}
 use lib.Dec.{ltb, leb·suc-zero}
 use lib.IntN.{ℤ, pos, negsuc, natAbs, _+ℤ_}
 use lib.Signed.{ltZ, shrZ}
-use lib.ListN.{length, take, drop, replicate, length-append, length-replicate, length-drop, take-append-drop, replicate-append-replicate}
+use lib.ListN.{length, take, drop, length-append, length-replicate, length-drop, take-append-drop, replicate-append-replicate}
 use lib.Seq.{take-all}
 use lib.Pow.{pow-add}
 use lib.Ieee.{up, down}
@@ -21,16 +21,15 @@ use Rattle.lexical_write_integer.proofs.DigitsLaws.{pow-mul, radix-above, digit
 use Rattle.lexical_format.specs.declared.format.Pair.{Pair}
 use Rattle.lexical_format.specs.declared.format.NumberFormat.{NumberFormat}
 use Rattle.lexical_format.specs.declared.options.Options.{Options}
-use Rattle.lexical_format.proofs.FormatLaws.{IsPair, Readable}
-use Rattle.lexical_write_float.specs.declared.layout.Layout.{Layout}
+use Rattle.lexical_format.proofs.FormatLaws.{Readable}
 use Rattle.lexical_write_float.specs.declared.layout.Layout.the-variants.{Scientific, Negative, Positive}
 use Rattle.lexical_write_float.specs.Value.{modulo, exactDigits}
 use Rattle.lexical_write_float.specs.Text.{least, trim, isScientific, layoutOf, digitsSoFar}
 use Rattle.lexical_write_float.proofs.WriteLaws.{first-place}
-use Rattle.lexical_read_float.specs.Shape.{Sign, unsigned, plus, minus, Tail, absent, exponent, Shape}
+use Rattle.lexical_read_float.specs.Shape.{unsigned, plus, Tail, absent, exponent, Shape}
 use Rattle.lexical_read_float.specs.Parse.{withTail}
-use Rattle.lexical_read_float.specs.Read.{magnitude, isNegative, basePower, numerator, denominator}
-use Rattle.lexical_rewrite.proofs.TextShape.{noughts, signOf, tailOf, pad, scientificShape, negativeShape, positiveShape, shapeIn, digitsIn, shapeOfText}
+use Rattle.lexical_read_float.specs.Read.{magnitude, isNegative, numerator, denominator}
+use Rattle.lexical_rewrite.proofs.TextShape.{noughts, tailOf, pad, scientificShape, negativeShape, positiveShape, shapeIn, shapeOfText}
 use Rattle.lexical_rewrite.proofs.DigitRuns.{value-padded}
 use Rattle.lexical_rewrite.proofs.Balance.{Balanced, balance}
 

@@ -1,13 +1,13 @@
 -- The shape of a written text has digits of its radices, and one at least where one must be. Assumes nothing.
-use Prim.Native.Nat.{ℕ, zero, suc, _+_, _-_, _*_, _/_, _^_, _≤_, _<_, max}
-use mathlib.Core.Path.{_≡_, refl, sym, ap, _∙_, subst}
+use Prim.Native.Nat.{ℕ, zero, suc, _+_, _-_, _*_, _/_, _^_, _<_, max}
+use mathlib.Core.Path.{refl}
 use mathlib.Core.Bool.{Bool, true, false, not, cond, _&&_}
 use mathlib.Core.List.{List, [], _∷_, _++_}
 use native.Mathlib.Omega.{arith}
 use native.Mathlib.Numerals.{add-one}
 use lib.Dec.{ltb}
-use lib.IntN.{ℤ, pos, negsuc, natAbs}
-use lib.ListN.{length, take, drop, replicate}
+use lib.IntN.{ℤ, natAbs}
+use lib.ListN.{length, take, drop}
 use lib.Pow.{pow-pos}
 use Rattle.lexical_util.specs.Digit.{AreDigits}
 use Rattle.lexical_util.specs.Num.{scale, place}
@@ -17,15 +17,15 @@ use Rattle.lexical_write_integer.proofs.DigitsLaws.{radix-above, digits-below, 
 use Rattle.lexical_format.specs.declared.format.Pair.{Pair}
 use Rattle.lexical_format.specs.declared.format.NumberFormat.{NumberFormat}
 use Rattle.lexical_format.specs.declared.options.Options.{Options}
-use Rattle.lexical_format.proofs.FormatLaws.{IsPair, Readable}
+use Rattle.lexical_format.proofs.FormatLaws.{Readable}
 use Rattle.lexical_write_float.specs.declared.layout.Layout.{Layout}
 use Rattle.lexical_write_float.specs.declared.layout.Layout.the-variants.{Scientific, Negative, Positive}
 use Rattle.lexical_write_float.specs.Value.{modulo, exactDigits}
 use Rattle.lexical_write_float.specs.Text.{least, trim, layoutOf, digitsSoFar}
-use Rattle.lexical_read_float.specs.Shape.{Grammar, Tail, absent, exponent, Shape, Some, TailFits, FractionFits, WellFormed}
+use Rattle.lexical_read_float.specs.Shape.{Grammar, Tail, absent, Some, TailFits, FractionFits, WellFormed}
 use Rattle.lexical_read_float.specs.Parse.{withTail}
 use Rattle.lexical_read_float.specs.Read.{grammarOf}
-use Rattle.lexical_rewrite.proofs.TextShape.{noughts, signOf, tailOf, pad, scientificShape, negativeShape, positiveShape, shapeIn, digitsIn, shapeOfText}
+use Rattle.lexical_rewrite.proofs.TextShape.{noughts, tailOf, pad, scientificShape, negativeShape, positiveShape, shapeIn, shapeOfText}
 
 -- ---- lists of digits
 digits-append : (r : ℕ) (s t : List ℕ) → AreDigits r s → AreDigits r t → AreDigits r (s ++ t)

@@ -1,22 +1,21 @@
 -- What is written is read back: as the same shape, and without a digit limit as the same float, whose value it denotes exactly. Assumes nothing.
-use Prim.Native.Nat.{ℕ, zero, suc, _+_, _-_, _*_, _/_, _≤_, _<_, zero-le, max}
+use Prim.Native.Nat.{ℕ, zero, suc, _+_, _-_, _*_, _≤_, _<_, zero-le, max}
 use mathlib.Core.Path.{_≡_, refl, sym, ap, _∙_, subst}
 use mathlib.Core.Bool.{Bool, true, false, not, cond, _&&_}
 use mathlib.Core.List.{List, [], _∷_, _++_}
-use native.Mathlib.Nat.{mul-le-mul, div-le-self, mul-pos, zero-lt-suc}
+use native.Mathlib.Nat.{mul-le-mul, div-le-self, zero-lt-suc}
 use native.Mathlib.Omega.{arith}
 use borrow.Author.Tests.{le-ltb}
 use lib.Dec.{T, ltb}
 use lib.IntN.{ℤ, pos, negsuc, natAbs}
 use lib.ListN.{length, take, drop}
 use lib.Pow.{pow-pos}
-use lib.Ieee.{Float, nan, inf, fin, Format, fits, round}
+use lib.Ieee.{Float, nan, inf, fin, Format, fits}
 use lib.Ieee.Exact.{HasValue}
-use Rattle.lexical_util.specs.Answer.{Answer, done, refused, andThen, checked}
+use Rattle.lexical_util.specs.Answer.{Answer, done, refused, andThen}
 use Rattle.lexical_util.specs.Num.{scale, place, power}
 use Rattle.lexical_util.proofs.AnswerLaws.{refused-done, done-same}
 use Rattle.lexical_util.proofs.RadixLaws.{radix-bounds}
-use Rattle.lexical_write_integer.specs.Digits.{digits}
 use Rattle.lexical_write_integer.proofs.DigitsLaws.{digits-value}
 use Rattle.lexical_format.specs.declared.format.Pair.{Pair}
 use Rattle.lexical_format.specs.declared.format.NumberFormat.{NumberFormat}
@@ -31,9 +30,8 @@ use Rattle.lexical_write_float.specs.Value.{exactDigits}
 use Rattle.lexical_write_float.specs.Write.{limitedText, floatText, writeText}
 use Rattle.lexical_write_float.proofs.RangeLaws.{Between, Ranged, in-range, float-ranged}
 use Rattle.lexical_write_float.proofs.WriteLaws.{longest-text}
-use Rattle.lexical_read_float.specs.Shape.{Tail, absent, exponent, Shape, print}
+use Rattle.lexical_read_float.specs.Shape.{Tail, absent, Shape}
 use Rattle.lexical_read_float.specs.Parse.{withTail, shapeOf}
-use Rattle.lexical_read_float.specs.Round.{tooLarge}
 use Rattle.lexical_read_float.specs.Read.{grammarOf, magnitude, numerator, denominator, floatOf, exponentTooLarge, exponentPlace, valueOf, readText, readFloat}
 use Rattle.lexical_read_float.proofs.Largest.{not-too-large}
 use Rattle.lexical_read_float.proofs.ReadLaws.{printed-is-read, denominator-pos}

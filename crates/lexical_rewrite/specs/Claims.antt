@@ -6,7 +6,7 @@ use mathlib.Core.List.{List}
 use lib.Dec.{T}
 use lib.Ieee.{Float, Format, fits}
 use lib.Ieee.Exact.{HasValue}
-use Rattle.lexical_util.specs.Answer.{Answer, done}
+use Rattle.lexical_util.specs.Answer.{done}
 use Rattle.lexical_format.specs.declared.format.Pair.{Pair}
 use Rattle.lexical_format.specs.declared.format.NumberFormat.{NumberFormat}
 use Rattle.lexical_format.specs.declared.options.Options.{Options}

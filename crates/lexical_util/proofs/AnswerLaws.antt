@@ -6,7 +6,7 @@ use mathlib.Core.List.{List, [], _∷_, _++_}
 use native.Mathlib.Omega.{arith}
 use borrow.Author.Tests.{le-leb, lt-leb}
 use lib.ListN.{length, drop}
-use Rattle.lexical_util.specs.Answer.{Answer, done, refused, Check, checked, written, held}
+use Rattle.lexical_util.specs.Answer.{done, refused, Check, checked, written, held}
 
 pub refused-done : {A : Type 0} (n p : ℕ) (a : A) → refused n p ≡ done a → ⊥
 refused-done n p a e = let z : _≡_ {A = ℕ} 0 1 = cc in omega arith

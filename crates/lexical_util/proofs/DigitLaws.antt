@@ -1,12 +1,12 @@
 -- The laws of digit bytes and digit values. Assumes nothing.
-use Prim.Native.Nat.{ℕ, zero, suc, _+_, _-_, _*_, _^_, _≤_, _<_}
-use mathlib.Core.Path.{_≡_, refl, sym, ap, _∙_}
+use Prim.Native.Nat.{ℕ, _+_, _-_, _≤_, _<_}
+use mathlib.Core.Path.{_≡_, refl, ap, _∙_}
 use mathlib.Core.Bool.{Bool, true, false, cond, _&&_}
 use mathlib.Core.Option.{Option, none, some}
 use native.Mathlib.Omega.{arith}
-use borrow.Author.Tests.{le-leb, lt-leb, lt-ltb, le-ltb, leb-true, leb-false, ltb-true, ltb-false}
+use borrow.Author.Tests.{le-leb, lt-leb, lt-ltb, le-ltb, leb-true, ltb-true, ltb-false}
 use lib.Dec.{leb, ltb}
-use Rattle.lexical_util.specs.Digit.{digitByte, digitValue, below, digitIn, isSome, isDigit}
+use Rattle.lexical_util.specs.Digit.{digitByte, digitValue, below, digitIn}
 
 -- ---- a byte's digit value, by its ranges
 pub value-figure : (x : ℕ) → 48 ≤ x → x ≤ 57 → digitValue x ≡ some (x - 48)

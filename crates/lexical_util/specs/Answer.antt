@@ -1,10 +1,9 @@
 -- What a call answers, and what a call that writes leaves in the bytes lent to it: document 01, "What each call returns". Definitions only.
 use Prim.Native.Nat.{ℕ}
-use mathlib.Core.Bool.{Bool, true, false, cond}
+use mathlib.Core.Bool.{Bool, cond}
 use mathlib.Core.List.{List, [], _∷_, _++_}
 use lib.Dec.{leb}
 use lib.ListN.{length, drop}
-use Rattle.lexical_util.specs.declared.answer.Refusal.{Refusal}
 use Rattle.lexical_util.specs.declared.answer.Written.{Written}
 use Rattle.lexical_util.specs.declared.answer.Written.the-variants.{Length, Refused}
 

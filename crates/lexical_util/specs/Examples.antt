@@ -1,5 +1,5 @@
 -- What a list of worked examples needs: quoted texts as bytes, answers compared, and the names of the examples that fail. Definitions only.
-use Prim.Native.Nat.{ℕ, zero, suc}
+use Prim.Native.Nat.{ℕ}
 use Prim.Native.String.{String}
 use Prim.Native.String as S
 use Prim.Native.Char.{code}

@@ -1,8 +1,8 @@
 -- A float's parts: document 01, "Float parts" and the s of "Layout". Both widths by the format. Definitions only.
-use Prim.Native.Nat.{ℕ, zero, suc, _+_, _-_, _*_, _/_, _%_, _^_}
+use Prim.Native.Nat.{ℕ, zero, suc, _+_, _-_, _*_, _/_, _%_}
 use mathlib.Core.Bool.{Bool, true, false, cond}
 use lib.Dec.{eqb}
-use lib.IntN.{ℤ, pos, negsuc, natAbs, _+ℤ_}
+use lib.IntN.{ℤ, pos, natAbs, _+ℤ_}
 use lib.Signed.{shrZ}
 use lib.Ieee.{Float, nan, inf, fin, Format, low, hid, ones, minus, size, toBits}
 

@@ -1,7 +1,6 @@
 -- Integers: floor and remainder by b, and which natural number lies between two. Assumes nothing.
 use Prim.Native.Nat.{ℕ, zero, suc, _+_, _-_, _*_, _/_, _%_, _≤_, _<_}
-use mathlib.Core.Path.{_≡_, refl, sym, ap, ap₂, _∙_, subst}
-use mathlib.Core.Logic.{_⊎_, inl, inr}
+use mathlib.Core.Path.{_≡_, refl, sym, ap, ap₂, _∙_}
 use native.Mathlib.Nat.{div-add-mod, mod-lt, mul-comm, mul-add, mul-suc, mul-zero, mul-pos, mul-add-div, add-comm, le-trans, le-of-eq, lt-of-lt-of-le, lt-of-not-le, div-lt-iff-lt-mul, le-div-iff-mul-le, div-eq-of-lt, zero-lt-suc}
 use native.Mathlib.Decide.{decLe}
 use native.Mathlib.Omega.{arith}

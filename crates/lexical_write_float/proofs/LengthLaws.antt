@@ -1,29 +1,27 @@
 -- How long a text is, by its layout: with at most 64 digits in D and 1,200 least digits, and s from -1,074 to 1,024, no more than 2,275 bytes. Assumes nothing.
 use Prim.Native.Nat.{ℕ, zero, suc, _+_, _-_, _*_, _/_, _^_, _≤_, _<_, max}
-use mathlib.Core.Path.{_≡_, refl, sym, ap, _∙_, subst}
+use mathlib.Core.Path.{_≡_}
 use mathlib.Core.Bool.{Bool, true, false, not, cond, _&&_}
 use mathlib.Core.List.{List, [], _∷_, _++_}
-use native.Mathlib.Nat.{le-trans, le-of-eq, lt-of-lt-of-le, mul-le-mul, div-le-self, pow-le-pow-left}
+use native.Mathlib.Nat.{lt-of-lt-of-le, mul-le-mul, div-le-self, pow-le-pow-left}
 use native.Mathlib.Omega.{arith}
 use lib.Dec.{ltb, leb·suc-zero}
 use lib.IntN.{ℤ, pos, negsuc, natAbs}
-use lib.Signed.{ltZ, shrZ}
-use lib.ListN.{length, take, drop, replicate, length-append, length-replicate, length-take, length-drop}
-use lib.Pow.{pow-mono, pow-add, shl-lt}
+use lib.Signed.{ltZ}
+use lib.ListN.{length, take, drop, length-append, length-replicate, length-take, length-drop}
 use lib.Ieee.{size}
-use lib.Ieee.Digits.{size-lt, size-le}
+use lib.Ieee.Digits.{size-le}
 use Rattle.lexical_util.specs.Num.{scale, place}
 use Rattle.lexical_util.proofs.RadixLaws.{radix-bounds}
-use Rattle.lexical_write_integer.specs.Digits.{digits, numeral}
-use Rattle.lexical_write_integer.proofs.DigitsLaws.{count-le, length-numeral, size-pos, count-lt}
+use Rattle.lexical_write_integer.specs.Digits.{numeral}
+use Rattle.lexical_write_integer.proofs.DigitsLaws.{count-le, length-numeral, count-lt}
 use Rattle.lexical_format.specs.declared.format.Pair.{Pair}
 use Rattle.lexical_format.specs.declared.format.NumberFormat.{NumberFormat}
 use Rattle.lexical_format.specs.declared.options.Options.{Options}
-use Rattle.lexical_format.proofs.FormatLaws.{IsPair, Readable, Writable}
-use Rattle.lexical_write_float.specs.declared.layout.Layout.{Layout}
+use Rattle.lexical_format.proofs.FormatLaws.{Writable}
 use Rattle.lexical_write_float.specs.declared.layout.Layout.the-variants.{Scientific, Negative, Positive}
 use Rattle.lexical_write_float.specs.Value.{modulo, exactDigits}
-use Rattle.lexical_write_float.specs.Text.{zeros, point, least, trim, isScientific, layoutOf, afterOneDigit, scientific, exponentSign, exponentText, negative, afterPlaces, positive, laidOut, digitsSoFar, text}
+use Rattle.lexical_write_float.specs.Text.{zeros, point, least, trim, isScientific, layoutOf, scientific, exponentSign, exponentText, negative, positive, laidOut, digitsSoFar, text}
 use Rattle.lexical_write_float.proofs.Integers.{modulo-lt}
 use Rattle.lexical_write_float.proofs.ValueLaws.{length-exact}
 use Rattle.lexical_write_float.proofs.RangeLaws.{Between, Ranged}

@@ -1,27 +1,25 @@
 -- The s of every value that is written lies from -1,074 to 1,024, and its mantissa below 2 ^ 54: of a float of either width, and after a digit limit. Assumes nothing.
 use Prim.Native.Nat.{ℕ, zero, suc, _+_, _-_, _*_, _/_, _%_, _^_, _≤_, _<_, zero-le, compare}
-use mathlib.Core.Path.{_≡_, refl, sym, ap, _∙_, subst}
-use mathlib.Core.Bool.{Bool, true, false, _&&_}
-use native.Mathlib.Nat.{le-trans, le-of-eq, lt-of-lt-of-le, lt-of-le-of-lt, lt-of-not-le, not-le-of-lt, le-of-suc-le-suc, mul-one, one-mul, div-le-self, div-one, mod-one, div-lt-iff-lt-mul, mul-le-mul-right, add-comm, zero-lt-suc, pow-suc}
+use mathlib.Core.Path.{_≡_, refl, sym, ap, _∙_}
+use mathlib.Core.Bool.{false}
+use native.Mathlib.Nat.{le-trans, le-of-eq, lt-of-lt-of-le, lt-of-le-of-lt, lt-of-not-le, not-le-of-lt, le-of-suc-le-suc, mul-one, div-le-self, div-one, mod-one, div-lt-iff-lt-mul, mul-le-mul-right, zero-lt-suc, pow-suc}
 use native.Mathlib.Decide.{decLe}
 use native.Mathlib.Omega.{arith}
 use borrow.Author.Tests.{lt-ltb, le-ltb}
 use lib.Dec.{T, leb, ltb, eqb, lit≤, ltb→lt, leb→le, eqb→eq}
-use lib.IntN.{ℤ, pos, negsuc, _+ℤ_, _-ℤ_, _*ℤ_, +ℤ-assoc, +ℤ-comm, +ℤ-negℤ-cancel, -ℤ-+ℤ-cancel}
-use lib.Signed.{shrZ}
+use lib.IntN.{ℤ, pos, negsuc, _+ℤ_, _-ℤ_, +ℤ-assoc, +ℤ-comm, +ℤ-negℤ-cancel, -ℤ-+ℤ-cancel}
 use lib.Pow.{pow-add, pow-pos, pow-mono, pow-lt}
-use lib.Ieee.{fin, Format, binary32, binary64, prec, emax, low, up, down, size, fits, nearest}
+use lib.Ieee.{fin, Format, binary32, binary64, prec, emax, low, up, down, size, fits}
 use lib.Ieee.Digits.{size-lt, size-le, size-reaches}
 use lib.Ieee.Fits.{and-l, and-r, nearest-le}
-use lib.Ieee.Nearest.{closest}
 use Rattle.lexical_util.specs.Num.{scale, place}
 use Rattle.lexical_format.specs.declared.options.RoundMode.{RoundMode}
 use Rattle.lexical_format.specs.declared.options.RoundMode.the-variants.{Round, Truncate}
 use Rattle.lexical_write_integer.proofs.DigitsLaws.{size-pos}
-use Rattle.lexical_write_float.specs.Value.{Value, normal, modulo}
+use Rattle.lexical_write_float.specs.Value.{normal, modulo}
 use Rattle.lexical_write_float.specs.Limit.{unitExponent, rounded, multipleOf, limited}
 use Rattle.lexical_write_float.proofs.Integers.{floor-modulo, times-below, move, nat-less, nat-more}
-use Rattle.lexical_write_float.proofs.ValueLaws.{scale-is, IsNormal, is-normal, normal-shift, scale-normal}
+use Rattle.lexical_write_float.proofs.ValueLaws.{scale-is, is-normal, normal-shift, scale-normal}
 
 -- ---- from -low to high
 abbrev pub Between : ℕ → ℕ → ℤ → Type 0

@@ -1,19 +1,17 @@
 -- The normal form of a value, and what document 01 says of D: its first digit's place is p = floor (s / b), and its first and its last digit are not zero. Assumes nothing.
 use Prim.Native.Nat.{ℕ, zero, suc, _+_, _-_, _*_, _/_, _%_, _^_, _≤_, _<_}
-use mathlib.Core.Path.{_≡_, refl, sym, ap, ap₂, _∙_, subst}
-use mathlib.Core.List.{List, [], _∷_, _++_, map}
-use native.Mathlib.Nat.{le-antisymm, le-trans, le-of-eq, lt-of-lt-of-le, lt-of-le-of-lt, lt-of-not-le, lt-irrefl, div-one, mul-one, one-mul, mul-assoc, mul-comm, mul-pos, mul-le-mul-right, div-le-self, div-div-eq-div-mul, div-add-mod', add-comm, add-zero, pow-zero, pow-suc, pow-succ', eq-of-mul-eq-mul-right, zero-lt-suc}
+use mathlib.Core.Path.{_≡_, refl, sym, ap, ap₂, _∙_}
+use native.Mathlib.Nat.{le-antisymm, le-trans, le-of-eq, lt-of-lt-of-le, lt-of-not-le, lt-irrefl, div-one, mul-one, mul-assoc, mul-pos, mul-le-mul-right, div-div-eq-div-mul, div-add-mod', add-comm, add-zero, pow-suc, pow-succ', eq-of-mul-eq-mul-right, zero-lt-suc}
 use native.Mathlib.Omega.{arith}
 use lib.Count.{trailingZeros, under}
-use lib.IntN.{ℤ, pos, negsuc, _+ℤ_, _*ℤ_, +ℤ-assoc, +ℤ-idr}
+use lib.IntN.{ℤ, pos, _+ℤ_, _*ℤ_, +ℤ-assoc}
 use lib.Signed.{shrZ}
-use lib.ListN.{length, getD, List·getD-map}
+use lib.ListN.{length, getD}
 use lib.Pow.{pow-add, pow-pos, pow-mono, shl-lt}
 use lib.Ieee.{size}
 use lib.Ieee.Digits.{size-lt, size-le, size-reaches}
-use Rattle.lexical_util.specs.Digit.{digitByte}
 use Rattle.lexical_util.specs.Num.{scale, place}
-use Rattle.lexical_write_integer.specs.Digits.{digits, numeral}
+use Rattle.lexical_write_integer.specs.Digits.{digits}
 use Rattle.lexical_write_integer.proofs.DigitsLaws.{radix-above, size-pos, count-bits, first-pos, length-numeral}
 use Rattle.lexical_write_float.specs.Value.{Value, normal, modulo, exactDigits}
 use Rattle.lexical_write_float.proofs.Integers.{modulo-lt, floor-modulo, floor-add}

@@ -8,7 +8,7 @@ use lib.IntN.{ℤ, pos, natAbs, _+ℤ_}
 use lib.Signed.{shrZ}
 use lib.ListN.{length, getD}
 use lib.Ieee.{Float, Format, fits}
-use Rattle.lexical_util.specs.Answer.{Answer, done}
+use Rattle.lexical_util.specs.Answer.{done}
 use Rattle.lexical_util.specs.Num.{scale, place, power}
 use Rattle.lexical_format.specs.declared.format.Pair.{Pair}
 use Rattle.lexical_format.specs.declared.format.NumberFormat.{NumberFormat}

@@ -1,5 +1,5 @@
 -- Document 01's starred examples, as one list against the definitions that the contracts cite: the answer and every lent byte. Definitions only.
-use Prim.Native.Nat.{ℕ, _*_, _^_, _-_}
+use Prim.Native.Nat.{ℕ, _^_, _-_}
 use Prim.Native.String.{String}
 use mathlib.Core.Bool.{Bool, true, false, _&&_}
 use mathlib.Core.List.{List, [], _∷_, _++_}

@@ -1,6 +1,6 @@
 -- What a call to write a float is asked for: document 01, "Write a float". Its answer and the lent bytes are `written` and `held` of it, at both widths. Definitions only.
 use Prim.Native.Nat.{ℕ}
-use mathlib.Core.Bool.{Bool, true, false}
+use mathlib.Core.Bool.{true, false}
 use mathlib.Core.List.{List}
 use lib.IntN.{ℤ}
 use lib.Ieee.{Float, nan, inf, fin}
@@ -9,7 +9,6 @@ use Rattle.lexical_format.specs.declared.format.Pair.{Pair}
 use Rattle.lexical_format.specs.declared.format.NumberFormat.{NumberFormat}
 use Rattle.lexical_format.specs.declared.options.Options.{Options}
 use Rattle.lexical_format.specs.Format.{writingFormat}
-use Rattle.lexical_write_float.specs.Value.{Value}
 use Rattle.lexical_write_float.specs.Limit.{limited}
 use Rattle.lexical_write_float.specs.Text.{text}
 

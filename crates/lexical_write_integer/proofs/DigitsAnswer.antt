@@ -1,10 +1,10 @@
 -- What the digits call answers and leaves in the lent bytes, in each of its three cases. Assumes nothing.
 use Prim.Native.Nat.{ℕ, _≤_, _<_}
-use mathlib.Core.Path.{_≡_, refl, sym, ap, _∙_}
+use mathlib.Core.Path.{_≡_, sym, _∙_}
 use mathlib.Core.Bool.{true, false}
 use mathlib.Core.List.{List, _++_}
 use lib.ListN.{length, drop}
-use Rattle.lexical_util.specs.Answer.{Answer, done, refused, written, held}
+use Rattle.lexical_util.specs.Answer.{done, refused, written, held}
 use Rattle.lexical_util.specs.Digit.{isRadix}
 use Rattle.lexical_util.proofs.AnswerLaws.{text-fits, text-short}
 use Rattle.lexical_write_integer.specs.Digits.{digits, numeral}

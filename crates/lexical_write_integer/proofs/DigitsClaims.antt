@@ -1,12 +1,10 @@
 -- The laws of a number's digits, as they are claimed. Assumes nothing.
-use Prim.Native.Nat.{ℕ, zero, suc, _+_, _-_, _/_, _^_, _≤_, _<_, max}
-use mathlib.Core.Path.{_≡_, refl, sym, ap, _∙_}
+use Prim.Native.Nat.{ℕ, zero, suc, _+_, _-_, _/_, _^_, _<_}
+use mathlib.Core.Path.{_≡_, ap, _∙_}
 use native.Mathlib.Nat.{div-eq-of-lt, add-div-right, zero-lt-suc}
 use native.Mathlib.Omega.{arith}
-use lib.ListN.{length}
 use lib.Pow.{pow-pos}
 use lib.Ieee.{size}
-use Rattle.lexical_write_integer.specs.Digits.{digits}
 use Rattle.lexical_write_integer.specs.Claims.{ReadBack, EachBelow, NoLeadingZero, DigitCount}
 use Rattle.lexical_write_integer.proofs.DigitsLaws.{digits-value, digits-below, first-pos, count-lt, count-bits, size-pos}
 use Rattle.lexical_write_integer.proofs.CountLaws.{size-zero}

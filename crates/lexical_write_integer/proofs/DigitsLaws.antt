@@ -1,6 +1,6 @@
 -- The laws of a number's digits, over the radix. Assumes nothing.
 use Prim.Native.Nat.{ℕ, zero, suc, _+_, _-_, _*_, _/_, _%_, _^_, _≤_, _<_}
-use mathlib.Core.Path.{_≡_, refl, sym, ap, _∙_}
+use mathlib.Core.Path.{_≡_, refl, ap, _∙_}
 use mathlib.Core.Bool.{Bool, true, false}
 use mathlib.Core.List.{List, [], _∷_, _++_, map}
 use native.Mathlib.Nat.{div-lt-self, div-add-mod', mod-lt, zero-mul, zero-add, one-mul, mul-zero, mul-suc, mul-comm, pow-suc, pow-zero, div-lt-iff-lt-mul, le-div-iff-mul-le, pow-le-pow-right, lt-of-lt-of-le, le-trans, le-antisymm, div-mul-le-self, lt-div-mul-add, mod-eq-of-lt}

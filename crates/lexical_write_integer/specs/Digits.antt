@@ -1,6 +1,6 @@
 -- The digits of a number in a radix: document 01, "Integer digits". Definitions only.
 use Prim.Native.Nat.{ℕ, zero, suc, _/_, _%_}
-use mathlib.Core.Bool.{Bool, cond}
+use mathlib.Core.Bool.{cond}
 use mathlib.Core.List.{List, [], _∷_, _++_, map}
 use lib.Dec.{ltb}
 use Rattle.lexical_util.specs.Digit.{digitByte}

@@ -1,6 +1,6 @@
 -- `lexical_write_integer::radix::radix_32_pairs` meets its contract: the digits left and the bytes stored are the whole, and the table follows its rule.
 -- The rule is proved of all its entries at once, where the loop begins: antt computes them from the rule, and compares. Assumes nothing.
-use Prim.Native.Nat.{_+_, _/_, _%_, _≤_, _<_}
+use Prim.Native.Nat.{_/_, _%_, _≤_, _<_}
 use mathlib.Core.Path.{_≡_, refl}
 use mathlib.Core.List.{_++_}
 use native.Mathlib.Omega.{arith}
