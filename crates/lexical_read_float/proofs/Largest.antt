@@ -1,4 +1,4 @@
--- No float of a width is too large, and what is not too large is rounded to a finite float of the width. So is all that lies below the edge, half a step above the largest float.
+-- No float of a width is too large, and what is not too large lies below the edge, half a step above the largest float, up to which rounding does not overflow.
 -- One proof for both widths. Assumes nothing.
 use mathlib.Core.Path.{_≡_}
 use mathlib.Core.Bool.{Bool, false}
@@ -11,10 +11,10 @@ use lib.Dec.{T, lit≤}
 use lib.Pow.{pow-add, pow-pos, pow-mono, high-ones, le-ones, ones-lt}
 use lib.Ieee.{Float, Format, binary32, binary64, prec, emax, low, round, fits}
 use lib.Ieee.Exact.{HasValue, units-val}
-use lib.Ieee.Fits.{two, two-le-pos, reach, round-is, round-fits}
+use lib.Ieee.Fits.{two, two-le-pos, reach, round-is}
 use lib.Ieee.Order.{drop, kept}
 use lib.Ieee.Positive.{num, den, den-pos}
-use lib.Ieee.Scale.{grid, overflow, finite}
+use lib.Ieee.Scale.{grid, overflow}
 use Rattle.lexical_read_float.specs.Round.{largest, tooLarge, apart}
 use Rattle.lexical_read_float.proofs.Rounded.{lower, rounded, rounded-least}
 use Rattle.lexical_read_float.proofs.Value.{same-fraction, parts, units}
@@ -81,18 +81,12 @@ below-overflow f a c C h =
 pub round-value : (f : Format) (s : Bool) (a c : ℕ) → grid f a c < overflow f → HasValue (round f s a c) s (grid f a c) (2 ^ low f)
 round-value f s a c h = rw (round-is f s a c) (units-val f s (kept (prec f) (a * 2 ^ low f) c) (drop (prec f) (a * 2 ^ low f) c) h)
 
-pub finite-below-edge : (f : Format) (s : Bool) (a c : ℕ) → 0 < c → a < edge f * c → T (finite (round f s a c)) × T (fits f (round f s a c))
-finite-below-edge f s a c C h = (parts (round f s a c) s (grid f a c) (2 ^ low f) (round-value f s a c (below-overflow f a c C h)) .is-finite, round-fits f s a c)
-
 -- ---- what is not too large lies below the edge
 pub below-edge : (f : Format) (a c : ℕ) → 0 < c → tooLarge f a c ≡ false → a < edge f * c
 unfolding tooLarge
 below-edge f a c C h =
     let l : largest f < edge f = omega (arith, halfway f, pow-pos (step f), pow-pos (suc (emax f))) in
     lt-of-le-of-lt (ltb-false (largest f * c) a h) (mul-lt-mul-of-pos-right l C)
-
-pub round-finite : (f : Format) (s : Bool) (a c : ℕ) → 0 < c → tooLarge f a c ≡ false → T (finite (round f s a c)) × T (fits f (round f s a c))
-round-finite f s a c C h = finite-below-edge f s a c C (below-edge f a c C h)
 
 -- ---- no float of the width is too large
 at-most : (p t j k : ℕ) → t < 2 ^ p → t * 2 ^ j < 2 ^ p * 2 ^ k → t * 2 ^ j ≤ (2 ^ p - 1) * 2 ^ k

@@ -24,10 +24,10 @@ use Rattle.lexical_read_float.specs.Shape.{Shape, print}
 use Rattle.lexical_read_float.specs.Parse.{Parsed, found, stuck, parse, ofParsed, shapeOf, WrongAt}
 use Rattle.lexical_read_float.specs.Round.{tooLarge, Nearest}
 use Rattle.lexical_read_float.specs.Read.{grammarOf, magnitude, isNegative, basePower, numerator, denominator, floatOf, exponentTooLarge, exponentPlace, valueOf, readText, readFloat}
-use Rattle.lexical_read_float.specs.Claims.{PrintedIsRead, FoundIsPrinted, PlaceIsLeast, NearestToText, ReadIsNearest}
+use Rattle.lexical_read_float.specs.Claims.{PrintedIsRead, FoundIsPrinted, PlaceIsLeast, RoundIsNearest, OnlyOneIsNearest, NearestToText, ReadIsNearest}
 use Rattle.lexical_read_float.proofs.ParseLaws.{Apart, parse-print}
 use Rattle.lexical_read_float.proofs.PlaceLaws.{found-prints, wrong-at}
-use Rattle.lexical_read_float.proofs.NearestLaws.{round-nearest}
+use Rattle.lexical_read_float.proofs.NearestLaws.{round-nearest, only-nearest}
 
 no-digit : (radix x : ℕ) → isDigit radix x ≡ false → digitIn radix x ≡ none
 unfolding isDigit
@@ -74,6 +74,13 @@ place-is-least F o row t n i e h = go (parse (grammarOf F o) t) refl h
         let number : 9 ≡ n = cc in
         let place : length t - length left ≡ i = cc in
         (sym number, subst (WrongAt (grammarOf F o) t) place (wrong-at (grammarOf F o) (apart F o row e) t left p))
+
+-- ---- rounding
+pub round-is-nearest : RoundIsNearest
+round-is-nearest = round-nearest
+
+pub only-one-is-nearest : OnlyOneIsNearest
+only-one-is-nearest f s a c x C h n = only-nearest f s a c C h x n
 
 -- ---- the float read
 pub denominator-pos : (row : Pair) (power : ℕ) (s : Shape) → 0 < denominator row power s

@@ -1,9 +1,9 @@
 -- What the laws of reading say, of every format that passes the reader's checks 1, 2, 3. Statements only; `ReadLaws` proves them.
-use Prim.Native.Nat.{ℕ}
+use Prim.Native.Nat.{ℕ, _<_}
 use mathlib.Core.Path.{_≡_}
-use mathlib.Core.Bool.{false}
+use mathlib.Core.Bool.{Bool, false}
 use mathlib.Core.List.{List}
-use lib.Ieee.{Float, Format}
+use lib.Ieee.{Float, Format, round}
 use Rattle.lexical_util.specs.Answer.{done, refused}
 use Rattle.lexical_format.specs.declared.format.Pair.{Pair}
 use Rattle.lexical_format.specs.declared.format.NumberFormat.{NumberFormat}
@@ -11,7 +11,7 @@ use Rattle.lexical_format.specs.declared.options.Options.{Options}
 use Rattle.lexical_format.specs.Format.{readingFormat}
 use Rattle.lexical_read_float.specs.Shape.{Shape, WellFormed, print}
 use Rattle.lexical_read_float.specs.Parse.{shapeOf, WrongAt}
-use Rattle.lexical_read_float.specs.Round.{Nearest}
+use Rattle.lexical_read_float.specs.Round.{tooLarge, Nearest}
 use Rattle.lexical_read_float.specs.Read.{grammarOf, numerator, denominator, readFloat}
 
 -- what is printed is read back as the same shape
@@ -29,6 +29,14 @@ abbrev pub PlaceIsLeast : Type 0
 PlaceIsLeast =
     (F : NumberFormat) (o : Options) (row : Pair) (t : List ℕ) (number place : ℕ) → readingFormat F o ≡ done row → shapeOf (grammarOf F o) t ≡ refused number place
     → (number ≡ 9) × WrongAt (grammarOf F o) t place
+
+-- the rounding rule picks a nearest float, for a value a / c that is not too large
+abbrev pub RoundIsNearest : Type 0
+RoundIsNearest = (f : Format) (s : Bool) (a c : ℕ) → 0 < c → tooLarge f a c ≡ false → Nearest f s a c (round f s a c)
+
+-- and no other float is nearest
+abbrev pub OnlyOneIsNearest : Type 0
+OnlyOneIsNearest = (f : Format) (s : Bool) (a c : ℕ) (x : Float) → 0 < c → tooLarge f a c ≡ false → Nearest f s a c x → x ≡ round f s a c
 
 -- the float read is the nearest to the text's value, the even one of two
 pub record NearestToText (f : Format) (F : NumberFormat) (o : Options) (t : List ℕ) (x : Float) : Type 0 where

@@ -3,7 +3,7 @@ use Prim.Native.Nat.{ℕ, zero, suc, _+_, _-_, _*_, _/_, _^_, _<_, max}
 use mathlib.Core.Path.{_≡_, refl, sym, ap, ap₂, _∙_}
 use mathlib.Core.Bool.{Bool, true, false, not, cond, _&&_}
 use mathlib.Core.List.{List, [], _∷_, _++_, append-assoc, append-nil}
-use native.Mathlib.Nat.{mul-assoc, mul-comm, mul-zero, zero-mul, mul-div-cancel, zero-lt-suc}
+use native.Mathlib.Nat.{mul-assoc, mul-comm, mul-zero, zero-mul, zero-lt-suc}
 use native.Mathlib.Omega.{arith}
 use borrow.Author.Tests.{ltb-true, ltb-false}
 use lib.Dec.{ltb, leb·suc-zero}
@@ -21,7 +21,7 @@ use Rattle.lexical_write_integer.proofs.DigitsLaws.{pow-mul, radix-above, digit
 use Rattle.lexical_format.specs.declared.format.Pair.{Pair}
 use Rattle.lexical_format.specs.declared.format.NumberFormat.{NumberFormat}
 use Rattle.lexical_format.specs.declared.options.Options.{Options}
-use Rattle.lexical_format.proofs.FormatLaws.{Readable}
+use Rattle.lexical_format.proofs.FormatLaws.{power-whole, Readable}
 use Rattle.lexical_write_float.specs.declared.layout.Layout.the-variants.{Scientific, Negative, Positive}
 use Rattle.lexical_write_float.specs.Value.{modulo, exactDigits}
 use Rattle.lexical_write_float.specs.Text.{least, trim, isScientific, layoutOf, digitsSoFar}
@@ -73,11 +73,7 @@ module _ (F : NumberFormat) (o : Options) (row : Pair) (R : Readable F o row) wh
   magnitude-is : (p : ℤ) → row .c * magnitude E (tailOf F o row p) ≡ b * natAbs p
   magnitude-is p =
       let q = radix-bounds E (R .power) in
-      let P = R .pair in
-      let g = row .b / row .c in
-      let whole : natAbs p * row .b ≡ natAbs p * g * row .c = ap (λ (x : ℕ). natAbs p * x) (sym (P .whole)) ∙ sym (mul-assoc (natAbs p) g (row .c)) in
-      ap (λ (x : ℕ). row .c * x) (digits-value E (q .0) (power (row .b) (row .c) p) ∙ ap (λ (x : ℕ). x / row .c) whole ∙ mul-div-cancel (natAbs p * g) (P .base-bits))
-      ∙ mul-comm (row .c) (natAbs p * g) ∙ sym whole ∙ mul-comm (natAbs p) (row .b)
+      ap (λ (x : ℕ). row .c * x) (digits-value E (q .0) (power (row .b) (row .c) p)) ∙ mul-comm (row .c) (power (row .b) (row .c) p) ∙ power-whole row p (R .pair) ∙ mul-comm (natAbs p) (row .b)
 
   not-negative : (p : ℕ) → isNegative (tailOf F o row (pos p)) ≡ false
   not-negative p = go (F .«required_exponent_sign»)

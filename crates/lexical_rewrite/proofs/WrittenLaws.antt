@@ -1,15 +1,14 @@
 -- What is written is read back: as the same shape, and without a digit limit as the same float, whose value it denotes exactly. Assumes nothing.
-use Prim.Native.Nat.{ℕ, zero, suc, _+_, _-_, _*_, _≤_, _<_, zero-le, max}
+use Prim.Native.Nat.{ℕ, _+_, _-_, _*_, _≤_, _<_, zero-le, max}
 use mathlib.Core.Path.{_≡_, refl, sym, ap, _∙_, subst}
 use mathlib.Core.Bool.{Bool, true, false, not, cond, _&&_}
 use mathlib.Core.List.{List, [], _∷_, _++_}
-use native.Mathlib.Nat.{mul-le-mul, div-le-self, zero-lt-suc}
+use native.Mathlib.Nat.{mul-le-mul, div-le-self}
 use native.Mathlib.Omega.{arith}
 use borrow.Author.Tests.{le-ltb}
 use lib.Dec.{T, ltb}
-use lib.IntN.{ℤ, pos, negsuc, natAbs}
+use lib.IntN.{ℤ, natAbs}
 use lib.ListN.{length, take, drop}
-use lib.Pow.{pow-pos}
 use lib.Ieee.{Float, nan, inf, fin, Format, fits}
 use lib.Ieee.Exact.{HasValue}
 use Rattle.lexical_util.specs.Answer.{Answer, done, refused, andThen}
@@ -28,7 +27,7 @@ use Rattle.lexical_write_float.specs.Limit.{limited}
 use Rattle.lexical_write_float.specs.Text.{least, trim, layoutOf, digitsSoFar, text}
 use Rattle.lexical_write_float.specs.Value.{exactDigits}
 use Rattle.lexical_write_float.specs.Write.{limitedText, floatText, writeText}
-use Rattle.lexical_write_float.proofs.RangeLaws.{Between, Ranged, in-range, float-ranged}
+use Rattle.lexical_write_float.proofs.RangeLaws.{Ranged, fits-ranged, place-near}
 use Rattle.lexical_write_float.proofs.WriteLaws.{longest-text}
 use Rattle.lexical_read_float.specs.Shape.{Tail, absent, Shape}
 use Rattle.lexical_read_float.specs.Parse.{withTail, shapeOf}
@@ -117,11 +116,7 @@ module _ (F : NumberFormat) (o : Options) (row : Pair) (R : Readable F o row) wh
   unfolding exponentTooLarge shapeOfText
   text-small m e r =
       le-ltb 32767 (magnitude (F .«exponent_radix») (shapeOfText F o row m e .tail))
-      (tail-in (digitsIn F o row m e) (place (row .b) (scale m e)) (digitsSoFar F o m (exactDigits (row .b) m e)) (layoutOf F o (scale m e)) (near (scale m e) (r .near)))
-    where
-      near : (s : ℤ) → Between 1074 1024 s → natAbs (place (row .b) s) ≤ 1074
-      near (pos n) h = omega (arith, div-le-self n (row .b))
-      near (negsuc n) h = omega (arith, div-le-self n (row .b))
+      (tail-in (digitsIn F o row m e) (place (row .b) (scale m e)) (digitsSoFar F o m (exactDigits (row .b) m e)) (layoutOf F o (scale m e)) (place-near (row .b) (scale m e) (r .near)))
 
 -- ---- read back
 float-done : (f : Format) (x : Float) (a c : ℕ) → 0 < c → T (fits f x) → HasValue x false a c → floatOf f a c ≡ done x
@@ -141,11 +136,7 @@ unfolding readFloat readText
 text-read f F o row w m e h l =
     let R = readable F o row (reads F o row w m e) in
     rw (reads F o row w m e, le-ltb 4096 (length (text F o row m e)) (omega arith), text-found F o row w m e)
-    (value-done f row (F .«exponent_radix») (text F o row m e) (shapeOfText F o row m e) (fin false m e) (text-small F o row R m e (ranged m h)) h (refl, text-value F o row R m e))
-  where
-    ranged : (m : ℕ) → T (fits f (fin false m e)) → Ranged m e
-    ranged zero h = record { few = pow-pos 54; near = zero-le }
-    ranged (suc m) h = float-ranged (suc m) e (zero-lt-suc m) (in-range f (suc m) e (zero-lt-suc m) h)
+    (value-done f row (F .«exponent_radix») (text F o row m e) (shapeOfText F o row m e) (fin false m e) (text-small F o row R m e (fits-ranged f m e h)) h (refl, text-value F o row R m e))
 
 pub written-is-read-back : WrittenIsReadBack
 written-is-read-back f F o x t h none e = by-float F o (λ l y. T (fits f y) → length l ≤ 2275 → readFloat f F o l ≡ done y) step x t e h (longest-text f F o x t h e)

@@ -1,14 +1,15 @@
 -- How long a text is, by its layout: with at most 64 digits in D and 1,200 least digits, and s from -1,074 to 1,024, no more than 2,275 bytes. Assumes nothing.
-use Prim.Native.Nat.{ℕ, zero, suc, _+_, _-_, _*_, _/_, _^_, _≤_, _<_, max}
+use Prim.Native.Nat.{ℕ, zero, suc, _+_, _-_, _*_, _/_, _^_, _≤_, _<_, min, max}
 use mathlib.Core.Path.{_≡_}
 use mathlib.Core.Bool.{Bool, true, false, not, cond, _&&_}
 use mathlib.Core.List.{List, [], _∷_, _++_}
-use native.Mathlib.Nat.{lt-of-lt-of-le, mul-le-mul, div-le-self, pow-le-pow-left}
+use native.Mathlib.Nat.{zero-mul, zero-lt-suc, lt-of-lt-of-le, mul-le-mul, div-le-self, pow-le-pow-left}
 use native.Mathlib.Omega.{arith}
 use lib.Dec.{ltb, leb·suc-zero}
 use lib.IntN.{ℤ, pos, negsuc, natAbs}
 use lib.Signed.{ltZ}
 use lib.ListN.{length, take, drop, length-append, length-replicate, length-take, length-drop}
+use lib.Pow.{pow-pos}
 use lib.Ieee.{size}
 use lib.Ieee.Digits.{size-le}
 use Rattle.lexical_util.specs.Num.{scale, place}
@@ -24,7 +25,7 @@ use Rattle.lexical_write_float.specs.Value.{modulo, exactDigits}
 use Rattle.lexical_write_float.specs.Text.{zeros, point, least, trim, isScientific, layoutOf, scientific, exponentSign, exponentText, negative, positive, laidOut, digitsSoFar, text}
 use Rattle.lexical_write_float.proofs.Integers.{modulo-lt}
 use Rattle.lexical_write_float.proofs.ValueLaws.{length-exact}
-use Rattle.lexical_write_float.proofs.RangeLaws.{Between, Ranged}
+use Rattle.lexical_write_float.proofs.RangeLaws.{Between, Ranged, place-near}
 
 module _ (F : NumberFormat) (o : Options) (row : Pair) (W : Writable F o row) where
   -- ---- each layout, for a D of at most 64 digits
@@ -36,7 +37,7 @@ module _ (F : NumberFormat) (o : Options) (row : Pair) (W : Writable F o row) wh
         l : least F o ≤ 1200
         l = W .least
 
-        go : (a b : Bool) → Prim.Native.Nat.min 1 (length D) + length (cond a (point F o ∷ (drop 1 D ++ zeros (least F o - length D))) (cond b [] (point F o ∷ zeros (max 1 (least F o - 1))))) ≤ 1300
+        go : (a b : Bool) → min 1 (length D) + length (cond a (point F o ∷ (drop 1 D ++ zeros (least F o - length D))) (cond b [] (point F o ∷ zeros (max 1 (least F o - 1))))) ≤ 1300
         go true b = simp (length-append, length-drop, length-replicate) (omega (arith, l, few))
         go false true = omega arith
         go false false = simp length-replicate (omega (arith, l))
@@ -76,32 +77,28 @@ module _ (F : NumberFormat) (o : Options) (row : Pair) (W : Writable F o row) wh
       let n = count-le (F .«exponent_radix») (q .0) 12 (natAbs p * row .b / row .c) (lt-of-lt-of-le d (pow-le-pow-left (q .0) 13)) in
       simp length-append (omega (arith, sign-length p, length-numeral (F .«exponent_radix») (natAbs p * row .b / row .c)))
 
-  -- ---- the place p lies in the range of s
-  place-near : (s : ℤ) → Between 1074 1024 s → natAbs (place (row .b) s) ≤ 1074
-  place-near (pos n) h = omega (arith, div-le-self n (row .b))
-  place-near (negsuc n) h = omega (arith, div-le-self n (row .b))
-
+  -- ---- the whole text
   laid-length : (D : List ℕ) (soFar : ℕ) (s : ℤ) → length D ≤ 64 → Between 1074 1024 s → length (laidOut F o row D (place (row .b) s) soFar (layoutOf F o s)) ≤ 2275
   unfolding layoutOf
   laid-length D soFar s few h = go (isScientific F o s) s h
     where
       go : (b : Bool) (s : ℤ) → Between 1074 1024 s → length (laidOut F o row D (place (row .b) s) soFar (cond b Scientific (cond (ltZ s (pos 0)) Negative Positive))) ≤ 2275
-      go true s h = simp length-append (omega (arith, scientific-length D few, exponent-length (place (row .b) s) (place-near s h)))
+      go true s h = simp length-append (omega (arith, scientific-length D few, exponent-length (place (row .b) s) (place-near (row .b) s h)))
       go false (pos n) h = rw (leb·suc-zero n) (positive-length D few (n / row .b + 1) soFar (omega (arith, div-le-self n (row .b))))
       go false (negsuc n) h = negative-length D few (negsuc (n / row .b)) (omega (arith, div-le-self n (row .b)))
 
   -- ---- D has at most 64 digits
   exact-few : (m : ℕ) (e : ℤ) → m < 2 ^ 54 → length (exactDigits (row .b) m e) ≤ 64
-  exact-few zero e h = unfold exactDigits in go (zero * 2 ^ modulo e (row .b)) (native.Mathlib.Nat.zero-mul (2 ^ modulo e (row .b)))
+  exact-few zero e h = unfold exactDigits in go (zero * 2 ^ modulo e (row .b)) (zero-mul (2 ^ modulo e (row .b)))
     where
       go : (n : ℕ) → n ≡ 0 → length (numeral (2 ^ row .b) n) ≤ 64
-      go n z = omega (arith, length-numeral (2 ^ row .b) n, count-lt (2 ^ row .b) n (rw z (lib.Pow.pow-pos (row .b))))
+      go n z = omega (arith, length-numeral (2 ^ row .b) n, count-lt (2 ^ row .b) n (rw z (pow-pos (row .b))))
   exact-few (suc m) e h =
       let P = W .reads .pair in
       let s = size-le (suc m) 54 h in
       let r = modulo-lt e (row .b) (P .some-bits) in
       let k = P .few-bits in
-      omega (arith, length-exact (row .b) (suc m) e (P .some-bits) (native.Mathlib.Nat.zero-lt-suc m), div-le-self (size (suc m) - 1 + modulo e (row .b)) (row .b))
+      omega (arith, length-exact (row .b) (suc m) e (P .some-bits) (zero-lt-suc m), div-le-self (size (suc m) - 1 + modulo e (row .b)) (row .b))
 
   pub text-length : (m : ℕ) (e : ℤ) → Ranged m e → length (text F o row m e) ≤ 2275
   unfolding text

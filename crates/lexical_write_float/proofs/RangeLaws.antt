@@ -2,12 +2,12 @@
 use Prim.Native.Nat.{ℕ, zero, suc, _+_, _-_, _*_, _/_, _%_, _^_, _≤_, _<_, zero-le, compare}
 use mathlib.Core.Path.{_≡_, refl, sym, ap, _∙_}
 use mathlib.Core.Bool.{false}
-use native.Mathlib.Nat.{le-trans, le-of-eq, lt-of-lt-of-le, lt-of-le-of-lt, lt-of-not-le, not-le-of-lt, le-of-suc-le-suc, mul-one, div-le-self, div-one, mod-one, div-lt-iff-lt-mul, mul-le-mul-right, zero-lt-suc, pow-suc}
+use native.Mathlib.Nat.{suc-le-suc-iff, mul-le-mul-left, le-trans, le-of-eq, lt-of-lt-of-le, lt-of-le-of-lt, lt-of-not-le, not-le-of-lt, le-of-suc-le-suc, mul-one, div-le-self, div-one, mod-one, div-lt-iff-lt-mul, mul-le-mul-right, zero-lt-suc, pow-suc}
 use native.Mathlib.Decide.{decLe}
 use native.Mathlib.Omega.{arith}
 use borrow.Author.Tests.{lt-ltb, le-ltb}
 use lib.Dec.{T, leb, ltb, eqb, lit≤, ltb→lt, leb→le, eqb→eq}
-use lib.IntN.{ℤ, pos, negsuc, _+ℤ_, _-ℤ_, +ℤ-assoc, +ℤ-comm, +ℤ-negℤ-cancel, -ℤ-+ℤ-cancel}
+use lib.IntN.{ℤ, pos, negsuc, natAbs, _+ℤ_, _-ℤ_, +ℤ-assoc, +ℤ-comm, +ℤ-negℤ-cancel, -ℤ-+ℤ-cancel}
 use lib.Pow.{pow-add, pow-pos, pow-mono, pow-lt}
 use lib.Ieee.{fin, Format, binary32, binary64, prec, emax, low, up, down, size, fits}
 use lib.Ieee.Digits.{size-lt, size-le, size-reaches}
@@ -63,7 +63,7 @@ pub record InRange (m : ℕ) (e : ℤ) : Type 0 where
   pub low-end : Between 1074 1023 e
   pub high-end : (n : ℕ) → e ≡ pos n → n + size m ≤ 1024
 
-pub in-range : (f : Format) (m : ℕ) (e : ℤ) → 0 < m → T (fits f (fin false m e)) → InRange m e
+in-range : (f : Format) (m : ℕ) (e : ℤ) → 0 < m → T (fits f (fin false m e)) → InRange m e
 unfolding fits
 in-range f zero e M h = absurd (omega arith)
 in-range f (suc m) e M h =
@@ -88,7 +88,7 @@ wider : (e : ℤ) → Between 1074 1023 e → Between 1074 1024 e
 wider (pos n) h = omega arith
 wider (negsuc n) h = h
 
-pub float-ranged : (m : ℕ) (e : ℤ) → 0 < m → InRange m e → Ranged m e
+float-ranged : (m : ℕ) (e : ℤ) → 0 < m → InRange m e → Ranged m e
 float-ranged m e M r =
     let p = size-pos m M in
     record {
@@ -138,7 +138,7 @@ module _ (m : ℕ) (e u : ℤ) (w : ℕ) (M : 0 < m) (r : InRange m e) (at : u +
   cut mode h =
       let c : ℕ = size m - 1 - suc w in
       let gap : e -ℤ u ≡ negsuc c = move u (pos w) e (pos (size m - 1)) at ∙ nat-more w (size m - 1) h in
-      rw (gap, mul-one m) (go (suc c) (omega arith) (rounded mode m (2 ^ suc c)) (size-rounded mode m (suc c) (omega arith)) (le-trans (rounded-le mode m (2 ^ suc c)) (native.Mathlib.Nat.suc-le-suc-iff .1 (div-le-self m (2 ^ suc c)))))
+      rw (gap, mul-one m) (go (suc c) (omega arith) (rounded mode m (2 ^ suc c)) (size-rounded mode m (suc c) (omega arith)) (le-trans (rounded-le mode m (2 ^ suc c)) (suc-le-suc-iff .1 (div-le-self m (2 ^ suc c)))))
     where
       go : (c : ℕ) → c + w ≡ size m - 1 → (q : ℕ) → c + size q ≤ size m + 1 → q ≤ suc m → Ranged (normal q u .m) (normal q u .e)
       go c k zero s l = unfold normal in record { few = pow-pos 54; near = zero-le }
@@ -146,7 +146,7 @@ module _ (m : ℕ) (e u : ℤ) (w : ℕ) (M : 0 < m) (r : InRange m e) (at : u +
           let v = is-normal (suc q) u (zero-lt-suc q) in
           let p = size-pos (suc q) (zero-lt-suc q) in
           let d = r .few in
-          let less : normal (suc q) u .m ≤ suc q = le-trans (le-trans (le-of-eq (sym (mul-one (normal (suc q) u .m)))) (native.Mathlib.Nat.mul-le-mul-left (normal (suc q) u .m) (pow-pos (v .shift)))) (le-of-eq (v .is)) in
+          let less : normal (suc q) u .m ≤ suc q = le-trans (le-trans (le-of-eq (sym (mul-one (normal (suc q) u .m)))) (mul-le-mul-left (normal (suc q) u .m) (pow-pos (v .shift)))) (le-of-eq (v .is)) in
           let small : m < 2 ^ 53 = lt-of-lt-of-le (size-lt m) (pow-mono {i = size m} {j = 53} d) in
           let unit : u ≡ e +ℤ pos c = sym (+ℤ-negℤ-cancel u (pos w)) ∙ ap (λ (z : ℤ). z -ℤ pos w) (at ∙ ap (λ (n : ℕ). e +ℤ pos n) (sym k) ∙ sym (+ℤ-assoc e (pos c) (pos w))) ∙ +ℤ-negℤ-cancel (e +ℤ pos c) (pos w) in
           let top : scale (normal (suc q) u .m) (normal (suc q) u .e) ≡ e +ℤ pos (c + (size (suc q) - 1)) = scale-normal (suc q) u (zero-lt-suc q) ∙ ap (λ (z : ℤ). z +ℤ pos (size (suc q) - 1)) unit ∙ +ℤ-assoc e (pos c) (pos (size (suc q) - 1)) in
@@ -156,7 +156,7 @@ module _ (m : ℕ) (e u : ℤ) (w : ℕ) (M : 0 < m) (r : InRange m e) (at : u +
           }
 
 -- ---- after the digit limit, or without one
-pub limited-ranged : (mode : RoundMode) (b k m : ℕ) (e : ℤ) → 0 < b → 0 < m → InRange m e → Ranged (limited mode b k m e .m) (limited mode b k m e .e)
+limited-ranged : (mode : RoundMode) (b k m : ℕ) (e : ℤ) → 0 < b → 0 < m → InRange m e → Ranged (limited mode b k m e .m) (limited mode b k m e .e)
 unfolding limited
 limited-ranged mode b zero m e B M r = float-ranged m e M r
 limited-ranged mode b (suc k) zero e B M r = absurd (omega arith)
@@ -168,3 +168,18 @@ limited-ranged mode b (suc k) (suc m) e B M r =
     go : (u : ℤ) (w : ℕ) → u +ℤ pos w ≡ e +ℤ pos (size (suc m) - 1) → Dec (size (suc m) - 1 ≤ w) → Ranged (multipleOf mode u (suc m) e .m) (multipleOf mode u (suc m) e .e)
     go u w at (yes h) = rw (kept (suc m) e u w M r at mode h) (float-ranged (suc m) e M r)
     go u w at (no h) = cut (suc m) e u w M r at mode (lt-of-not-le h)
+
+-- ---- of every float of either width that may be written, zero too
+pub fits-ranged : (f : Format) (m : ℕ) (e : ℤ) → T (fits f (fin false m e)) → Ranged m e
+fits-ranged f zero e h = record { few = pow-pos 54; near = zero-le }
+fits-ranged f (suc m) e h = float-ranged (suc m) e (zero-lt-suc m) (in-range f (suc m) e (zero-lt-suc m) h)
+
+pub limited-fits : (f : Format) (mode : RoundMode) (b k m : ℕ) (e : ℤ) → 0 < b → T (fits f (fin false m e)) → Ranged (limited mode b k m e .m) (limited mode b k m e .e)
+limited-fits f mode b zero m e B h = unfold limited in fits-ranged f m e h
+limited-fits f mode b (suc k) zero e B h = unfold limited in fits-ranged f zero e h
+limited-fits f mode b (suc k) (suc m) e B h = limited-ranged mode b (suc k) (suc m) e B (zero-lt-suc m) (in-range f (suc m) e (zero-lt-suc m) h)
+
+-- and p lies no farther than s
+pub place-near : (b : ℕ) (s : ℤ) → Between 1074 1024 s → natAbs (place b s) ≤ 1074
+place-near b (pos n) h = omega (arith, div-le-self n b)
+place-near b (negsuc n) h = omega (arith, div-le-self n b)

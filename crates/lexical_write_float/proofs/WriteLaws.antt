@@ -1,13 +1,11 @@
 -- The laws of writing: what document 01 says of D and of a text's length. Assumes nothing.
-use Prim.Native.Nat.{ℕ, zero, suc, _*_, _/_, _%_, _^_, _≤_, zero-le}
-use mathlib.Core.Path.{_≡_, refl, sym, ap, _∙_}
+use Prim.Native.Nat.{ℕ, _*_, _%_, _^_, _≤_}
+use mathlib.Core.Path.{_≡_, refl, sym, _∙_}
 use mathlib.Core.Bool.{Bool, true, false}
 use native.Mathlib.Omega.{arith}
-use native.Mathlib.Nat.{zero-lt-suc, mul-assoc, mul-div-cancel}
 use borrow.Author.Tests.{ltb-true, ltb-false}
 use lib.Dec.{T, ltb}
-use lib.IntN.{ℤ, natAbs}
-use lib.Pow.{pow-pos}
+use lib.IntN.{ℤ}
 use lib.ListN.{length, getD, List·getD-map}
 use lib.Ieee.{Float, nan, inf, fin, Format, fits}
 use Rattle.lexical_util.specs.Answer.{Answer, done, refused, andThen}
@@ -20,13 +18,13 @@ use Rattle.lexical_format.specs.declared.format.Pair.{Pair}
 use Rattle.lexical_format.specs.declared.format.NumberFormat.{NumberFormat}
 use Rattle.lexical_format.specs.declared.options.Options.{Options}
 use Rattle.lexical_format.specs.Format.{writingFormat}
-use Rattle.lexical_format.proofs.FormatLaws.{Writable, writable}
-use Rattle.lexical_write_float.specs.Value.{Value, modulo, exactDigits}
+use Rattle.lexical_format.proofs.FormatLaws.{power-whole, Writable, writable}
+use Rattle.lexical_write_float.specs.Value.{modulo, exactDigits}
 use Rattle.lexical_write_float.specs.Write.{limitedText, floatText, writeText}
 use Rattle.lexical_write_float.specs.Limit.{limited}
 use Rattle.lexical_write_float.specs.Claims.{FirstPlace, FirstDigit, LastDigit, LongestText, WholePower}
 use Rattle.lexical_write_float.proofs.ValueLaws.{first-place as place-is, first-digit as first-is, last-digit as last-is}
-use Rattle.lexical_write_float.proofs.RangeLaws.{Ranged, in-range, limited-ranged}
+use Rattle.lexical_write_float.proofs.RangeLaws.{limited-fits}
 use Rattle.lexical_write_float.proofs.LengthLaws.{text-length}
 
 pub first-place : FirstPlace
@@ -53,23 +51,11 @@ last-digit b m e B o h =
     let n = m * 2 ^ modulo e b in
     last-is b m e B o (byte-zero (n % 2 ^ b) (sym (last-byte (2 ^ b) n 48 (radix-above b B)) ∙ h))
 
--- what is written lies in the range of `RangeLaws`, zero too
-module _ (f : Format) (F : NumberFormat) (o : Options) (row : Pair) (W : Writable F o row) where
-  abbrev limit : ℕ → ℤ → Value
-  limit m e = limited (o .«round_mode») (row .b) (o .«max_significant_digits») m e
-
-  limit-ranged : (m : ℕ) (e : ℤ) → T (fits f (fin false m e)) → Ranged (limit m e .m) (limit m e .e)
-  limit-ranged zero e h = zero-ranged (o .«max_significant_digits»)
-    where
-      zero-ranged : (k : ℕ) → Ranged (limited (o .«round_mode») (row .b) k zero e .m) (limited (o .«round_mode») (row .b) k zero e .e)
-      zero-ranged zero = unfold limited in record { few = pow-pos 54; near = zero-le }
-      zero-ranged (suc k) = unfold limited in record { few = pow-pos 54; near = zero-le }
-  limit-ranged (suc m) e h =
-      limited-ranged (o .«round_mode») (row .b) (o .«max_significant_digits») (suc m) e (W .reads .pair .some-bits) (zero-lt-suc m) (in-range f (suc m) e (zero-lt-suc m) h)
-
-  limited-length : (m : ℕ) (e : ℤ) → T (fits f (fin false m e)) → length (limitedText F o row m e) ≤ 2275
-  unfolding limitedText
-  limited-length m e h = text-length F o row W (limit m e .m) (limit m e .e) (limit-ranged m e h)
+limited-length : (f : Format) (F : NumberFormat) (o : Options) (row : Pair) → Writable F o row → (m : ℕ) (e : ℤ) → T (fits f (fin false m e)) → length (limitedText F o row m e) ≤ 2275
+unfolding limitedText
+limited-length f F o row W m e h =
+    let v = limited (o .«round_mode») (row .b) (o .«max_significant_digits») m e in
+    text-length F o row W (v .m) (v .e) (limited-fits f (o .«round_mode») (row .b) (o .«max_significant_digits») m e (W .reads .pair .some-bits) h)
 
 pub longest-text : LongestText
 unfolding writeText floatText
@@ -83,8 +69,4 @@ longest-text f F o x t h e = go (writingFormat F o) refl x h e
     go (done row) w (fin false m d) h e = rw (done-same (limitedText F o row m d) t e) at (limited-length f F o row (writable F o row w) m d h)
 
 pub whole-power : WholePower
-whole-power F o row p w =
-    let P = writable F o row w .reads .pair in
-    let g = row .b / row .c in
-    let e : natAbs p * row .b ≡ natAbs p * g * row .c = ap (λ (b : ℕ). natAbs p * b) (sym (P .whole)) ∙ sym (mul-assoc (natAbs p) g (row .c)) in
-    rw (e, mul-div-cancel (natAbs p * g) (P .base-bits))
+whole-power F o row p w = power-whole row p (writable F o row w .reads .pair)
