@@ -37,11 +37,15 @@ unfoldable pub badBytes : NumberFormat → Options → Bool
 badBytes F o =
     badByte (F .«mantissa_radix») (o .«decimal_point») || (badByte (F .«mantissa_radix») (o .exponent) || eqb (o .«decimal_point») (o .exponent))
 
--- ---- 5: a count above 1,200, or both given and least above most; 0 is none
+-- ---- 5: a count above 1,200, or both given and least above most
+-- 0 is none
+abbrev pub given : ℕ → Bool
+given n = not (eqb n 0)
+
 unfoldable pub badCounts : Options → Bool
 badCounts o =
     ltb 1200 (o .«min_significant_digits») || (ltb 1200 (o .«max_significant_digits»)
-    || (not (eqb (o .«min_significant_digits») 0) && (not (eqb (o .«max_significant_digits») 0) && ltb (o .«max_significant_digits») (o .«min_significant_digits»))))
+    || (given (o .«min_significant_digits») && (given (o .«max_significant_digits») && ltb (o .«max_significant_digits») (o .«min_significant_digits»))))
 
 -- ---- the breaks, in bits
 -- 0 means absent

@@ -16,7 +16,9 @@ use Rattle.lexical_read_float.specs.Read.{grammarOf, numerator, denomina
 
 -- what is printed is read back as the same shape
 abbrev pub PrintedIsRead : Type 0
-PrintedIsRead = (F : NumberFormat) (o : Options) (row : Pair) (s : Shape) → readingFormat F o ≡ done row → WellFormed (grammarOf F o) s → shapeOf (grammarOf F o) (print (grammarOf F o) s) ≡ done s
+PrintedIsRead =
+    (F : NumberFormat) (o : Options) (row : Pair) (s : Shape) → readingFormat F o ≡ done row → WellFormed (grammarOf F o) s
+    → shapeOf (grammarOf F o) (print (grammarOf F o) s) ≡ done s
 
 -- a shape is found only where it is printed so
 abbrev pub FoundIsPrinted : Type 0

@@ -81,10 +81,13 @@ reading =
     ∷ []
 
 -- long texts: a settling digit far behind, an exponent that undoes the fraction, and the limit of 4,096 bytes
+abbrev read : String → List ℕ → Answer ℕ → Example
+read name t wanted = record { name = name; holds = reads binary64 (format 16 2 10) (options 46 94) t wanted }
+
 unfoldable pub long : List Example
 long =
-    record { name = "4,000 zeros undone by the exponent"; holds = reads binary64 (format 16 2 10) (options 46 94) (bytes "0." ++ (replicate 4000 48 ++ bytes "1^16004")) (done one) }
-    ∷ record { name = "4,097 bytes"; holds = reads binary64 (format 16 2 10) (options 46 94) (replicate 4097 48) (refused 12 0) }
-    ∷ record { name = "4,096 bytes"; holds = reads binary64 (format 16 2 10) (options 46 94) (replicate 4096 48) (done 0) }
-    ∷ record { name = "a tie settled behind 4,000 zeros"; holds = reads binary64 (format 16 2 10) (options 46 94) (bytes "1.00000000000008" ++ (replicate 4000 48 ++ bytes "1")) (done (one + 1)) }
+    read "4,000 zeros undone by the exponent" (bytes "0." ++ (replicate 4000 48 ++ bytes "1^16004")) (done one)
+    ∷ read "4,097 bytes" (replicate 4097 48) (refused 12 0)
+    ∷ read "4,096 bytes" (replicate 4096 48) (done 0)
+    ∷ read "a tie settled behind 4,000 zeros" (bytes "1.00000000000008" ++ (replicate 4000 48 ++ bytes "1")) (done (one + 1))
     ∷ []

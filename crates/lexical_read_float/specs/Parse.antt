@@ -44,7 +44,9 @@ exponentDigits exponentRadix s t = allDigits s (run exponentRadix t .got) (run e
 unfoldable pub signedExponent : ℕ → List ℕ → Parsed Tail
 signedExponent exponentRadix [] = stuck []
 signedExponent exponentRadix (x ∷ xs) =
-    cond (eqb x 43) (exponentDigits exponentRadix plus xs) (cond (eqb x 45) (exponentDigits exponentRadix minus xs) (exponentDigits exponentRadix unsigned (x ∷ xs)))
+    cond (eqb x 43) (exponentDigits exponentRadix plus xs)
+    (cond (eqb x 45) (exponentDigits exponentRadix minus xs)
+    (exponentDigits exponentRadix unsigned (x ∷ xs)))
 
 -- optionally mark and exponent
 unfoldable pub parseTail : Grammar → List ℕ → Parsed Tail

@@ -42,4 +42,5 @@ WrittenIsExact = (F : NumberFormat) (o : Options) (x : Float) (t : List ℕ) →
 -- and is read back as that float, at each width
 abbrev pub WrittenIsReadBack : Type 0
 WrittenIsReadBack =
-    (f : Format) (F : NumberFormat) (o : Options) (x : Float) (t : List ℕ) → T (fits f x) → o .«max_significant_digits» ≡ 0 → writeText F o x ≡ done t → readFloat f F o t ≡ done x
+    (f : Format) (F : NumberFormat) (o : Options) (x : Float) (t : List ℕ) → T (fits f x)
+    → o .«max_significant_digits» ≡ 0 → writeText F o x ≡ done t → readFloat f F o t ≡ done x

@@ -111,7 +111,8 @@ unstarred =
 -- the longest text, with a digit limit and without: 2,275 bytes are enough, and one less is refused
 abbrev longestIn : String → ℕ → ℕ → Answer ℕ → Example
 longestIn name most n wanted =
-    record { name = name; holds = sameAnswer eqb (written (writeText (formatWith 2 2 2 false true false) (options 1200 most Round false) (double 1 (2 ^ 1074))) (lent n)) wanted }
+    let t = writeText (formatWith 2 2 2 false true false) (options 1200 most Round false) (double 1 (2 ^ 1074)) in
+    record { name = name; holds = sameAnswer eqb (written t (lent n)) wanted }
 
 unfoldable pub longest : List Example
 longest =

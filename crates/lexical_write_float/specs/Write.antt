@@ -1,4 +1,5 @@
--- What a call to write a float is asked for: document 01, "Write a float". Its answer and the lent bytes are `written` and `held` of it, at both widths. Definitions only.
+-- What a call to write a float is asked for: document 01, "Write a float". Its answer and the lent bytes are `written` and `held` of it,
+-- at both widths. Definitions only.
 use Prim.Native.Nat.{ℕ}
 use mathlib.Core.Bool.{true, false}
 use mathlib.Core.List.{List}
