@@ -9,7 +9,7 @@ use Rattle.lexical_util.specs.Digit.{digitByte}
 use Rattle.lexical_write_integer.specs.Digits.{digits, numeral}
 use Rattle.lexical_write_integer.specs.Table.{pairByte}
 use Rattle.lexical_write_integer.proofs.DigitsLaws.{count-ge}
-use Rattle.lexical_write_integer.proofs.FillLaws.{back-step, back-end}
+use Rattle.lexical_write_integer.proofs.FillLaws.{back-step}
 
 -- ---- a table computed from a rule has the rule's value at each entry
 abbrev pub tab : (ℕ → ℕ) → ℕ → ℕ → List ℕ
@@ -70,9 +70,3 @@ module _ (table : List ℕ) (rule : Pairs table) (v : ℕ) (W out : List ℕ) (i
         let e : v / 32 / 32 ≡ v / 1024 = omega arith in
         let s = back-step 32 v W out i a (omega arith) (omega arith) (omega arith) q low left in
         rw e at (back-step 32 (v / 32) W (set out (i - 1) a) (i - 1) b (omega arith) (omega arith) (omega arith) (simp length-set (omega arith)) high s)
-
-    pub two-last : v < 1024 → 32 ≤ v → i ≡ 2 → 1 < length out → set (set out 1 a) 0 b ≡ W
-    two-last h l e q =
-        let s = back-step 32 v W out 2 a (omega arith) l (omega arith) q low (rw e at left) in
-        let f : v / 32 % 32 ≡ v / 32 = omega arith in
-        back-end 32 (v / 32) W (set out 1 a) 1 b (omega arith) (omega arith) (simp length-set (omega arith)) (rw f at high) s

@@ -31,7 +31,7 @@ fn last_pair(v: u64) -> usize
     (v & 1023) as usize
 }
 
-// The digits of value in radix 32, two at a time from the table.
+// The digits of value in radix 32, two at a time from the table, and the first ones by shifts.
 fn radix_32_pairs(value: u64, count: usize, buffer: &mut [u8])
     requires { ⌜ (count ≡ length (digits 32 value)) × (count ≤ length (now buffer)) ⌝ }
     ensures { λ _. ⌜ now (buffer .exit) ≡ numeral 32 value ++ drop count (now (buffer .entry)) ⌝ }
@@ -47,13 +47,7 @@ fn radix_32_pairs(value: u64, count: usize, buffer: &mut [u8])
         buffer[i] = table_byte(table, 2 * pair);
         v = v >> 10;
     }
-    let pair = v as usize;
-    if 32 <= v {
-        buffer[1] = table_byte(table, 2 * pair + 1);
-        buffer[0] = table_byte(table, 2 * pair);
-    } else {
-        buffer[0] = digit_to_char(v as u8);
-    }
+    radix(v, 5, i, buffer);
 }
 
 // The same, without the table where two digits are all: each call that uses it builds it first.

@@ -1,7 +1,7 @@
 -- `lexical_write_integer::radix::radix_32_pairs` meets its contract: the digits left and the bytes stored are the whole, and the table follows its rule.
 -- The rule is proved of all its entries at once, where the loop begins: antt computes them from the rule, and compares. Assumes nothing.
-use Prim.Native.Nat.{_/_, _%_, _≤_, _<_}
-use mathlib.Core.Path.{_≡_, refl}
+use Prim.Native.Nat.{_/_, _≤_, _<_}
+use mathlib.Core.Path.{_≡_, refl, sym, _∙_}
 use mathlib.Core.List.{_++_}
 use native.Mathlib.Omega.{arith}
 use borrow.Author.Needs.{needs}
@@ -9,9 +9,8 @@ use lib.ListN.{length, drop, length-set}
 use Rattle.lexical_util.specs.Digit.{digitByte}
 use Rattle.lexical_write_integer.specs.Digits.{digits, numeral}
 use Rattle.lexical_write_integer.specs.Table.{pairByte}
-use Rattle.lexical_write_integer.proofs.DigitsLaws.{count-lt, count-ge, count-pos}
-use Rattle.lexical_write_integer.proofs.FillLaws.{back-end}
-use Rattle.lexical_write_integer.proofs.PairLaws.{Pairs, tab-at, count-two, two-steps, two-last}
+use Rattle.lexical_write_integer.proofs.DigitsLaws.{count-pos}
+use Rattle.lexical_write_integer.proofs.PairLaws.{Pairs, tab-at, count-two, two-steps}
 use Rattle.lexical_write_integer.proofs.radix.radix_32_pairs.Statement.{statement}
 use Rattle.lexical_write_integer.proofs.radix.radix_32_pairs.Tie as tie
 
@@ -79,55 +78,14 @@ loop-again c =
       l .inv .4,
     )
 
-mul-table-byte-3 : tie.Need-mul-table-byte-3 Inv-loop μ-loop
-mul-table-byte-3 c = omega arith
-
-add-table-byte-2 : tie.Need-add-table-byte-2 Inv-loop μ-loop
-add-table-byte-2 c = omega arith
-
-table-byte-requires-3 : tie.Need-table-byte-requires-3 Inv-loop μ-loop
-table-byte-requires-3 c κs = omega arith
-
-slice-write-buffer-3 : tie.Need-slice-write-buffer-3 Inv-loop μ-loop
-slice-write-buffer-3 c = omega (arith, count-ge 32 (c .before .before .before .loop .v) (omega arith) (omega arith), count-pos 32 (omega arith) (c .before .before .before .loop .v / 32))
-
-mul-table-byte-4 : tie.Need-mul-table-byte-4 Inv-loop μ-loop
-mul-table-byte-4 c = omega arith
-
-table-byte-requires-4 : tie.Need-table-byte-requires-4 Inv-loop μ-loop
-table-byte-requires-4 c κs = omega arith
-
-slice-write-buffer-4 : tie.Need-slice-write-buffer-4 Inv-loop μ-loop
-slice-write-buffer-4 c = simp length-set (omega (arith, count-ge 32 (c .before .before .before .before .loop .v) (omega arith) (omega arith), count-pos 32 (omega arith) (c .before .before .before .before .loop .v / 32)))
-
-cast-digit-to-char : tie.Need-cast-digit-to-char Inv-loop μ-loop
-cast-digit-to-char c = omega arith
-
-digit-to-char-requires : tie.Need-digit-to-char-requires Inv-loop μ-loop
-digit-to-char-requires c κs = omega arith
-
-slice-write-buffer-5 : tie.Need-slice-write-buffer-5 Inv-loop μ-loop
-slice-write-buffer-5 c = omega (arith, count-lt 32 (c .before .before .before .loop .v) (omega arith))
+radix-requires : tie.Need-radix-requires Inv-loop μ-loop
+radix-requires c κs = let l = c .before .before .loop in (omega arith, omega arith, sym (l .inv .0), omega arith)
 
 same-length : tie.Need-same-length Inv-loop μ-loop
-same-length c = simp length-set (c .before .before .before .before .loop .inv .2)
+same-length c = search needs
 
 returns : tie.Need-returns Inv-loop μ-loop
-returns c =
-    let l = c .before .before .before .before .loop in
-    let g = count-ge 32 (l .v) (omega arith) (omega arith) in
-    let k = count-lt 32 (l .v / 32) (omega arith) in
-    let m : l .v % 1024 ≡ l .v = omega arith in
-    two-last _ (l .inv .4) (l .v) _ (l .buffer) (l .i) _ _ (rw m (c .before .table-byte3 .ensures)) (rw m (c .table-byte4 .ensures)) (l .inv .1) (omega arith) (omega arith) (omega arith) (omega arith)
-
-same-length-2 : tie.Need-same-length-2 Inv-loop μ-loop
-same-length-2 c = simp length-set (c .before .before .before .loop .inv .2)
-
-returns-2 : tie.Need-returns-2 Inv-loop μ-loop
-returns-2 c =
-    let l = c .before .before .before .loop in
-    let k = count-lt 32 (l .v) (omega arith) in
-    back-end 32 (l .v) _ (l .buffer) (l .i) _ (omega arith) (omega arith) (omega arith) (c .digit-to-char .ensures) (l .inv .1)
+returns c = c .before .before .radix .ensures ∙ sym (c .before .before .before .before .before .loop .inv .1)
 
 pub radix-32-pairs-spec : {M : Type 1} → statement M
 radix-32-pairs-spec =
@@ -148,17 +106,6 @@ radix-32-pairs-spec =
     slice-write-buffer-2
     loop-less
     loop-again
-    mul-table-byte-3
-    add-table-byte-2
-    table-byte-requires-3
-    slice-write-buffer-3
-    mul-table-byte-4
-    table-byte-requires-4
-    slice-write-buffer-4
-    cast-digit-to-char
-    digit-to-char-requires
-    slice-write-buffer-5
+    radix-requires
     same-length
-    returns
-    same-length-2
-    returns-2)
+    returns)
