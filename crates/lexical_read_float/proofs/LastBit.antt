@@ -3,19 +3,17 @@ use mathlib.Core.Path.{_≡_, refl, ap}
 use mathlib.Core.Logic.{inl, inr}
 use mathlib.Core.Bool.{Bool, true, false, cond}
 use Prim.Native.Nat.{ℕ, suc, _+_, _-_, _*_, _/_, _%_, _^_, _≤_, _<_}
-use native.Mathlib.Nat.{le-refl, not-le-of-lt, lt-of-lt-of-le, lt-of-not-le, eq-or-lt-of-le, eq-zero-or-pos, mul-le-mul-right, mul-div-cancel, mul-comm, dvd-mul-left-of-dvd, dvd-of-mod-eq-zero, mod-eq-zero-of-dvd}
+use native.Mathlib.Nat.{le-refl, eq-or-lt-of-le, eq-zero-or-pos, mul-le-mul-right, mul-div-cancel, mul-comm, dvd-mul-left-of-dvd, dvd-of-mod-eq-zero, mod-eq-zero-of-dvd}
 use native.Mathlib.Omega.{arith}
-use lib.Pow.{pow-add, pow-pos, pow-mono, pow-lt, shl-lt}
+use lib.Pow.{pow-add, pow-pos, pow-lt, shl-lt}
 use lib.Ieee.{Float, Format, binary32, binary64, prec, low, size, hid, top, ones, toBits}
-use lib.Ieee.Digits.{size-lt, size-le}
+use lib.Ieee.Digits.{size-le}
 use lib.Ieee.Exact.{HasValue}
 use lib.Ieee.Fits.{two, two-le-pos}
+use Rattle.lexical_util.proofs.PowerLaws.{size-more}
 use Rattle.lexical_read_float.proofs.Value.{bits-of-value}
 
 -- ---- the leading p digits of z * 2 ^ k
-size-more : (n j : ℕ) → 2 ^ j ≤ n → j < size n
-size-more n j h = lt-of-not-le (λ (g : size n ≤ j). not-le-of-lt (lt-of-lt-of-le (size-lt n) (pow-mono g)) h)
-
 dropped : (p z k : ℕ) → 0 < p → z < 2 ^ p → (0 < k → 2 ^ (p - 1) ≤ z) → size (z * 2 ^ k) - p ≡ k
 dropped p z k P h l =
     let m : size (z * 2 ^ k) ≤ p + k = size-le (z * 2 ^ k) (p + k) (shl-lt p k h) in

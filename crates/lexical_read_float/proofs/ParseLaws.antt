@@ -12,7 +12,7 @@ use Rattle.lexical_util.specs.Digit.{digitByte, digitIn, AreDigits}
 use Rattle.lexical_util.proofs.DigitLaws.{byte-figure, byte-capital}
 use Rattle.lexical_read_float.specs.Shape.{Grammar, Sign, unsigned, plus, minus, Tail, absent, exponent, Shape, signBytes, tailBytes, fractionBytes, print, Some, TailFits, FractionFits, WellFormed}
 use Rattle.lexical_read_float.specs.Parse.{Run, found, mapParsed, allDigits, exponentDigits, signedExponent, parseTail, withTail, afterWhole, oneOrMore, parse}
-use Rattle.lexical_read_float.proofs.RunLaws.{Ends, run-digits, run-all}
+use Rattle.lexical_read_float.proofs.RunLaws.{Head, Ends, run-digits, run-all}
 
 -- what check 3 and the checks of the radices give: point and mark are no digits of the radix, and differ
 pub record Apart (G : Grammar) : Type 0 where
@@ -37,6 +37,12 @@ pub no-sign : (power x : ℕ) (xs : List ℕ) → eqb x 43 ≡ false → eqb x 4
 unfolding signedExponent
 no-sign power x xs p q = rw (p, q)
 
+-- behind the digits in front, a text that does not begin with the point is nothing or an exponent
+pub no-point : (G : Grammar) (whole u : List ℕ) → Head (λ x. eqb x (G .point) ≡ false) u → afterWhole G whole u ≡ mapParsed (withTail whole false []) (parseTail G u)
+unfolding afterWhole
+no-point G whole [] h = unfold parseTail in refl
+no-point G whole (x ∷ xs) h = rw h
+
 module _ (G : Grammar) (A : Apart G) where
   all-digits : (s : Sign) (ds : List ℕ) → Some ds → AreDigits (G .exponentRadix) ds → exponentDigits (G .exponentRadix) s (map digitByte ds) ≡ found (exponent s ds)
   all-digits s [] n all = absurd n
@@ -59,18 +65,16 @@ module _ (G : Grammar) (A : Apart G) where
   ends-tail absent = tt
   ends-tail (exponent s ds) = A .mark-off
 
-  -- what follows the digits in front: nothing, the mark, or the point
-  pub no-point : (whole : List ℕ) (τ : Tail) → afterWhole G whole (tailBytes G τ) ≡ mapParsed (withTail whole false []) (parseTail G (tailBytes G τ))
-  unfolding afterWhole parseTail
-  no-point whole absent = refl
-  no-point whole (exponent s ds) = rw (A .differ)
+  tail-no-point : (τ : Tail) → Head (λ x. eqb x (G .point) ≡ false) (tailBytes G τ)
+  tail-no-point absent = tt
+  tail-no-point (exponent s ds) = A .differ
 
   fraction-back : (whole : List ℕ) (dot : Bool) (ds : List ℕ) (τ : Tail) → FractionFits dot ds → AreDigits (G .radix) ds → TailFits (G .exponentRadix) τ
       → afterWhole G whole (fractionBytes G dot ds ++ tailBytes G τ) ≡ found (withTail whole dot ds τ)
   fraction-back whole true ds τ fits all h =
       unfold afterWhole in
       rw (eq-eqb (G .point) (G .point) refl, run-digits (G .radix) ds (tailBytes G τ) (A .radix-small) all (ends-tail τ), tail-back τ h)
-  fraction-back whole false ds τ fits all h = rw fits (no-point whole τ ∙ ap (mapParsed (withTail whole false [])) (tail-back τ h))
+  fraction-back whole false ds τ fits all h = rw fits (no-point G whole (tailBytes G τ) (tail-no-point τ) ∙ ap (mapParsed (withTail whole false [])) (tail-back τ h))
 
   ends-fraction : (dot : Bool) (ds : List ℕ) (τ : Tail) → Ends (G .radix) (fractionBytes G dot ds ++ tailBytes G τ)
   ends-fraction true ds τ = A .point-off

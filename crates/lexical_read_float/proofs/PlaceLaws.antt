@@ -15,7 +15,7 @@ use Rattle.lexical_util.proofs.DigitLaws.{in-digit}
 use Rattle.lexical_read_float.specs.Shape.{Grammar, Sign, unsigned, plus, minus, Tail, absent, exponent, Shape, signBytes, tailBytes, fractionBytes, print, Some, TailFits, FractionFits, WellFormed, WellShaped, Begins}
 use Rattle.lexical_read_float.specs.Parse.{Run, run, Parsed, found, stuck, mapParsed, allDigits, exponentDigits, signedExponent, parseTail, withTail, afterPoint, afterWhole, oneOrMore, parse, WrongAt}
 use Rattle.lexical_read_float.proofs.RunLaws.{Head, Ends, IsRun, is-run, run-stops, run-digits, run-all}
-use Rattle.lexical_read_float.proofs.ParseLaws.{Apart, byte-no-sign, no-sign, parse-print}
+use Rattle.lexical_read_float.proofs.ParseLaws.{Apart, byte-no-sign, no-sign, no-point, parse-print}
 
 abbrev pub IsFound : {A : Type 0} → Parsed A → Type 0
 IsFound (found a) = Unit {0}
@@ -252,15 +252,10 @@ module _ (G : Grammar) (A : Apart G) where
   abbrev NoPoint : ℕ → Type 0
   NoPoint x = eqb x (G .point) ≡ false
 
-  no-point : (whole u : List ℕ) → Head NoPoint u → afterWhole G whole u ≡ mapParsed (withTail whole false []) (parseTail G u)
-  unfolding afterWhole
-  no-point whole [] h = unfold parseTail in refl
-  no-point whole (x ∷ xs) h = rw h
-
   without-point : (whole t : List ℕ) (p : Parsed Tail) → Head NoPoint t → OfTail t p → OfWhole whole t (mapParsed (withTail whole false []) p)
   without-point whole t (found τ) n h = record { whole-is = refl; fits = refl; digits = tt; tail = h .0; bytes = h .1 }
   without-point whole t (stuck left) n h =
-      agreeing NoPoint (λ u. mapParsed (withTail whole false []) (parseTail G u)) (afterWhole G whole) t left (no-point whole)
+      agreeing NoPoint (λ u. mapParsed (withTail whole false []) (parseTail G u)) (afterWhole G whole) t left (no-point G whole)
       (λ u k. tail-head NoPoint (A .differ) u (found-tail (withTail whole false []) (parseTail G u) k)) n (mapped (withTail whole false []) (parseTail G) t left h)
 
   of-whole : (whole t : List ℕ) → OfWhole whole t (afterWhole G whole t)
@@ -286,7 +281,7 @@ module _ (G : Grammar) (A : Apart G) where
     where
       go : (b : Bool) → eqb x (G .point) ≡ b → First x
       go true e = subst First (sym (eqb-true x (G .point) e)) p
-      go false e = tail-head First m (x ∷ xs) (found-tail (withTail (d ∷ ds) false []) (parseTail G (x ∷ xs)) (subst IsFound (no-point (d ∷ ds) (x ∷ xs) e) h))
+      go false e = tail-head First m (x ∷ xs) (found-tail (withTail (d ∷ ds) false []) (parseTail G (x ∷ xs)) (subst IsFound (no-point G (d ∷ ds) (x ∷ xs) e) h))
 
   pub of-text : (t : List ℕ) → OfText t (parse G t)
   unfolding parse

@@ -3,10 +3,10 @@
 use mathlib.Core.Path.{_≡_, refl}
 use mathlib.Core.Bool.{Bool, cond}
 use Prim.Native.Nat.{ℕ, zero, suc, _+_, _-_, _*_, _/_, _^_, _≤_, _<_}
-use native.Mathlib.Nat.{le-of-suc-le-suc, not-le-of-lt, lt-of-not-le, mul-one, zero-mul, mul-assoc, mul-comm, mul-right-comm, mul-lt-mul-of-pos-right, lt-of-mul-lt-mul-right, eq-of-mul-eq-mul-right}
+use native.Mathlib.Nat.{mul-one, zero-mul, mul-assoc, mul-comm, mul-right-comm, mul-lt-mul-of-pos-right, lt-of-mul-lt-mul-right, eq-of-mul-eq-mul-right}
 use lib.IntN.{ℤ, pos, negsuc}
 use lib.Dec.{T, ltb→lt, leb→le}
-use lib.Pow.{pow-add, pow-pos, pow-lt}
+use lib.Pow.{pow-add, pow-pos}
 use lib.Ieee.{Float, nan, inf, fin, Format, prec, emax, low, up, down, size, round, fits, hid, top, toBits}
 use lib.Ieee.Bits.{ofBits-toBits}
 use lib.Ieee.Digits.{back}
@@ -15,6 +15,7 @@ use lib.Ieee.Fits.{and-l, and-r, down-pos, round-fits}
 use lib.Ieee.Nearest.{div-same}
 use lib.Ieee.Positive.{num, den, den-pos}
 use lib.Ieee.Scale.{overflow, finite}
+use Rattle.lexical_util.proofs.PowerLaws.{power-le}
 
 -- ---- a / c and b / l are both x / u
 pub same-fraction : (x u a c b l : ℕ) → 0 < u → x * c ≡ a * u → x * l ≡ b * u → a * l ≡ b * c
@@ -60,9 +61,6 @@ pub record Units (f : Format) (x : Float) : Type 0 where
   pub few : digits < 2 ^ prec f
   pub inside : digits * 2 ^ place < overflow f
   pub is : num x * 2 ^ low f ≡ digits * 2 ^ place * den x
-
-power-le : (a l : ℕ) → 2 ^ a ≤ 2 ^ l → a ≤ l
-power-le a l h = le-of-suc-le-suc (lt-of-not-le (λ (g : l < a). not-le-of-lt (pow-lt g) h))
 
 raise : (l : ℕ) (e : ℤ) → down e ≤ 2 ^ l → (j : ℕ) × ((m : ℕ) → m * up e * 2 ^ l ≡ m * 2 ^ j * down e)
 raise l (pos a) h = (a + l, λ m. simp (pow-add, mul-assoc, mul-one))

@@ -1,4 +1,5 @@
 pub mod AnswerLaws
 pub mod DigitLaws
+pub mod PowerLaws
 pub mod RadixLaws
 pub mod Worked

@@ -2,17 +2,18 @@
 use Prim.Native.Nat.{ℕ, zero, suc, _+_, _-_, _*_, _/_, _%_, _^_, _≤_, _<_, zero-le, compare}
 use mathlib.Core.Path.{_≡_, refl, sym, ap, _∙_}
 use mathlib.Core.Bool.{false}
-use native.Mathlib.Nat.{suc-le-suc-iff, mul-le-mul-left, le-trans, le-of-eq, lt-of-lt-of-le, lt-of-le-of-lt, lt-of-not-le, not-le-of-lt, le-of-suc-le-suc, mul-one, div-le-self, div-one, mod-one, div-lt-iff-lt-mul, mul-le-mul-right, zero-lt-suc, pow-suc}
+use native.Mathlib.Nat.{suc-le-suc-iff, mul-le-mul-left, le-trans, le-of-eq, lt-of-lt-of-le, lt-of-le-of-lt, lt-of-not-le, not-le-of-lt, mul-one, div-le-self, div-one, mod-one, div-lt-iff-lt-mul, mul-le-mul-right, zero-lt-suc, pow-suc}
 use native.Mathlib.Decide.{decLe}
 use native.Mathlib.Omega.{arith}
 use borrow.Author.Tests.{lt-ltb, le-ltb}
 use lib.Dec.{T, leb, ltb, eqb, lit≤, ltb→lt, leb→le, eqb→eq}
 use lib.IntN.{ℤ, pos, negsuc, natAbs, _+ℤ_, _-ℤ_, +ℤ-assoc, +ℤ-comm, +ℤ-negℤ-cancel, -ℤ-+ℤ-cancel}
-use lib.Pow.{pow-add, pow-pos, pow-mono, pow-lt}
+use lib.Pow.{pow-add, pow-pos, pow-mono}
 use lib.Ieee.{fin, Format, binary32, binary64, prec, emax, low, up, down, size, fits}
 use lib.Ieee.Digits.{size-lt, size-le, size-reaches}
 use lib.Ieee.Fits.{and-l, and-r, nearest-le}
 use Rattle.lexical_util.specs.Num.{scale, place}
+use Rattle.lexical_util.proofs.PowerLaws.{power-le}
 use Rattle.lexical_format.specs.declared.options.RoundMode.{RoundMode}
 use Rattle.lexical_format.specs.declared.options.RoundMode.the-variants.{Round, Truncate}
 use Rattle.lexical_write_integer.proofs.DigitsLaws.{size-pos}
@@ -41,9 +42,6 @@ pub record Ranged (m : ℕ) (e : ℤ) : Type 0 where
   pub near : Between 1074 1024 (scale m e)
 
 -- ---- a float of either width
-power-le : (a l : ℕ) → 2 ^ a ≤ 2 ^ l → a ≤ l
-power-le a l h = le-of-suc-le-suc (lt-of-not-le (λ (g : l < a). not-le-of-lt (pow-lt g) h))
-
 -- m * 2 ^ k below 2 ^ t
 size-under : (m k t : ℕ) → 0 < m → m * 2 ^ k < 2 ^ t → size m + k ≤ t
 size-under m k t M h =

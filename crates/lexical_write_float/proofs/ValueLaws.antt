@@ -1,25 +1,23 @@
 -- The normal form of a value, and what document 01 says of D: its first digit's place is p = floor (s / b), and its first and its last digit are not zero. Assumes nothing.
 use Prim.Native.Nat.{ℕ, zero, suc, _+_, _-_, _*_, _/_, _%_, _^_, _≤_, _<_}
 use mathlib.Core.Path.{_≡_, refl, sym, ap, ap₂, _∙_}
-use native.Mathlib.Nat.{le-antisymm, le-trans, le-of-eq, lt-of-lt-of-le, lt-of-not-le, lt-irrefl, div-one, mul-one, mul-assoc, mul-pos, mul-le-mul-right, div-div-eq-div-mul, div-add-mod', add-comm, add-zero, pow-suc, pow-succ', eq-of-mul-eq-mul-right, zero-lt-suc}
+use native.Mathlib.Nat.{le-antisymm, le-trans, le-of-eq, div-one, mul-one, mul-assoc, mul-pos, mul-le-mul-right, div-div-eq-div-mul, div-add-mod', add-comm, add-zero, pow-suc, pow-succ', eq-of-mul-eq-mul-right, zero-lt-suc}
 use native.Mathlib.Omega.{arith}
 use lib.Count.{trailingZeros, under}
 use lib.IntN.{ℤ, pos, _+ℤ_, _*ℤ_, +ℤ-assoc}
 use lib.Signed.{shrZ}
 use lib.ListN.{length, getD}
-use lib.Pow.{pow-add, pow-pos, pow-mono, shl-lt}
+use lib.Pow.{pow-add, pow-pos, shl-lt}
 use lib.Ieee.{size}
 use lib.Ieee.Digits.{size-lt, size-le, size-reaches}
 use Rattle.lexical_util.specs.Num.{scale, place}
+use Rattle.lexical_util.proofs.PowerLaws.{size-more}
 use Rattle.lexical_write_integer.specs.Digits.{digits}
 use Rattle.lexical_write_integer.proofs.DigitsLaws.{radix-above, size-pos, count-bits, first-pos, length-numeral}
 use Rattle.lexical_write_float.specs.Value.{Value, normal, modulo, exactDigits}
 use Rattle.lexical_write_float.proofs.Integers.{modulo-lt, floor-modulo, floor-add}
 
 -- ---- significant bits
-size-more : (n j : ℕ) → 2 ^ j ≤ n → j < size n
-size-more n j h = lt-of-not-le (λ (g : size n ≤ j). lt-irrefl n (lt-of-lt-of-le (size-lt n) (le-trans (pow-mono g) h)))
-
 pub size-shift : (m t : ℕ) → 0 < m → size (m * 2 ^ t) ≡ size m + t
 size-shift m t h =
     let p = size-pos m h in
