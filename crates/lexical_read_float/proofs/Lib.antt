@@ -3,7 +3,6 @@ pub mod ParseLaws
 pub mod PlaceLaws
 pub mod Closest
 pub mod Rounded
-pub mod Value
 pub mod LastBit
 pub mod Largest
 pub mod NearestLaws

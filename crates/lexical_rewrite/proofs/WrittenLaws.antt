@@ -34,7 +34,7 @@ use Rattle.lexical_read_float.specs.Parse.{withTail, shapeOf}
 use Rattle.lexical_read_float.specs.Read.{grammarOf, magnitude, numerator, denominator, floatOf, exponentTooLarge, exponentPlace, valueOf, readText, readFloat}
 use Rattle.lexical_read_float.proofs.Largest.{not-too-large}
 use Rattle.lexical_read_float.proofs.ReadLaws.{printed-is-read, denominator-pos}
-use Rattle.lexical_read_float.proofs.Value.{round-of-value}
+use Rattle.lexical_util.proofs.FloatLaws.{round-of-value}
 use Rattle.lexical_rewrite.specs.Claims.{ReadAsShape, WrittenIsShaped, Denotes, WrittenIsExact, WrittenIsReadBack}
 use Rattle.lexical_rewrite.proofs.TextShape.{tailOf, pad, noughts, digitsIn, scientificShape, negativeShape, positiveShape, shapeIn, shapeOfText, print-text}
 use Rattle.lexical_rewrite.proofs.WellFormedText.{formed-text}

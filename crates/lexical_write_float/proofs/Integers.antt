@@ -86,12 +86,3 @@ pub move : (x w e t : ℤ) → x +ℤ w ≡ e +ℤ t → e -ℤ x ≡ w -ℤ t
 move x w e t h =
     ap (λ (z : ℤ). z -ℤ x) (sym (+ℤ-negℤ-cancel e t) ∙ ap (λ (z : ℤ). z -ℤ t) (sym h) ∙ +ℤ-assoc x w (negℤ t) ∙ +ℤ-comm x (w -ℤ t))
     ∙ +ℤ-negℤ-cancel (w -ℤ t) x
-
--- w - t as the difference that `up` and `down` go by
-pub nat-less : (w t : ℕ) → t ≤ w → pos w -ℤ pos t ≡ pos (w - t)
-nat-less w zero h = ap pos (omega arith)
-nat-less w (suc t) h = rw (le-ltb w (suc t) h)
-
-pub nat-more : (w t : ℕ) → w < t → pos w -ℤ pos t ≡ negsuc (t - suc w)
-nat-more w zero h = absurd (omega arith)
-nat-more w (suc t) h = rw (lt-ltb w (suc t) h)

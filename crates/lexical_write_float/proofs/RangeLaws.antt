@@ -19,7 +19,8 @@ use Rattle.lexical_format.specs.declared.options.RoundMode.the-variants.{Round,
 use Rattle.lexical_write_integer.proofs.DigitsLaws.{size-pos}
 use Rattle.lexical_write_float.specs.Value.{normal, modulo}
 use Rattle.lexical_write_float.specs.Limit.{unitExponent, rounded, multipleOf, limited}
-use Rattle.lexical_write_float.proofs.Integers.{floor-modulo, times-below, move, nat-less, nat-more}
+use Rattle.lexical_util.proofs.DifferenceLaws.{nat-less, nat-more}
+use Rattle.lexical_write_float.proofs.Integers.{floor-modulo, times-below, move}
 use Rattle.lexical_write_float.proofs.ValueLaws.{scale-is, is-normal, normal-shift, scale-normal}
 
 -- ---- from -low to high

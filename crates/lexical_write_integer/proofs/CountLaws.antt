@@ -1,32 +1,18 @@
 -- The count of digits in radix 2 ^ b as the code finds it, and the radix that is left after the others. Assumes nothing.
 use Prim.Native.Nat.{ℕ, zero, suc, _+_, _-_, _/_, _^_, _≤_, _<_}
-use mathlib.Core.Path.{_≡_, refl}
-use mathlib.Core.Bool.{Bool, true, false}
+use mathlib.Core.Path.{_≡_}
+use mathlib.Core.Bool.{true}
 use native.Mathlib.Nat.{zero-div, div-le-self}
 use native.Mathlib.Omega.{arith}
-use borrow.Author.Tests.{ne-eqb, eqb-true, ltb-true, ltb-false}
-use lib.Count.{leadingZeros, leading-top}
-use lib.Dec.{ltb}
+use borrow.Author.Tests.{ne-eqb, eqb-true}
 use lib.Ieee.{size}
-use lib.Ieee.Digits.{size-lt, size-le}
+use lib.Ieee.Digits.{size-le}
 use lib.ListN.{length}
-use lib.Pow.{pow-mono, pow-pos}
+use lib.Pow.{pow-pos}
 use Rattle.lexical_util.specs.Digit.{isRadix}
+use Rattle.lexical_util.proofs.PowerLaws.{size-zero}
 use Rattle.lexical_write_integer.specs.Digits.{digits}
 use Rattle.lexical_write_integer.proofs.DigitsLaws.{count-lt, count-bits}
-
-pub size-zero : size 0 ≡ 0
-size-zero = omega (arith, size-le 0 0 (pow-pos 0))
-
--- the width less the leading zeros is the size
-pub leading-size : (x : ℕ) → 0 < x → x < 2 ^ 64 → leadingZeros 64 x + size x ≡ 64
-leading-size x p h =
-    let t = leading-top 64 x p h in
-    go (t .0) (t .1) (t .2) (t .3) (ltb (t .0) (size x)) refl
-  where
-    go : (j : ℕ) → leadingZeros 64 x + suc j ≡ 64 → 2 ^ j ≤ x → x < 2 ^ suc j → (b : Bool) → ltb j (size x) ≡ b → leadingZeros 64 x + size x ≡ 64
-    go j e l u true q = omega (arith, size-le x (suc j) u, ltb-true j (size x) q)
-    go j e l u false q = absurd (omega (arith, size-lt x, pow-mono {i = size x} {j = j} (ltb-false j (size x) q)))
 
 pub log-small : (b x : ℕ) → x < 2 ^ 64 → (size x - 1) / b < 64
 log-small b x h = omega (arith, size-le x 64 h, div-le-self (size x - 1) b)
