@@ -1,7 +1,9 @@
 pub mod AnswerLaws
 pub mod DigitLaws
 pub mod DifferenceLaws
+pub mod EncodingLaws
 pub mod FloatLaws
+pub mod PartsLaws
 pub mod PowerLaws
 pub mod RadixLaws
 pub mod Worked

@@ -1,5 +1,7 @@
 pub mod Answer
 pub mod Digit
 pub mod Num
+pub mod Parts
+pub mod Encoding
 pub mod Examples
 pub mod PartsExamples

@@ -1,9 +1,14 @@
-// What every call shares: its answer, digit bytes and digit values.
+// What every call shares: its answer, digit bytes and digit values, a float's parts.
 pub mod answer;
 pub mod digit;
+pub mod num;
 
 pub use answer::Refusal;
 pub use answer::Written;
 pub use digit::DigitValue;
 pub use digit::digit_value;
 pub use digit::is_radix;
+pub use num::Magnitude;
+pub use num::Parts;
+pub use num::parts_f32;
+pub use num::parts_f64;

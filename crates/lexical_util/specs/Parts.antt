@@ -1,0 +1,27 @@
+-- What a float is, as one answer: document 01, "Float parts" and refusal 7. Both widths by the format. Definitions only.
+use Prim.Native.Nat.{_*_}
+use mathlib.Core.Bool.{true, false, not}
+use lib.Dec.{T}
+use lib.Ieee.{Float, nan, inf, fin, Format, up, down}
+use lib.Ieee.Exact.{HasValue}
+use lib.Ieee.Scale.{finite}
+use Rattle.lexical_util.specs.declared.num.Magnitude.{Magnitude}
+use Rattle.lexical_util.specs.declared.num.Parts.{Parts}
+use Rattle.lexical_util.specs.declared.num.Parts.the-variants.{Plain, Negative, Special}
+use Rattle.lexical_util.specs.Num.{mantissa, exponent}
+
+abbrev pub magnitudeOf : Format → Float → Magnitude
+magnitudeOf f x = record { mantissa = mantissa f x; exponent = exponent f x }
+
+-- 7 not finite, or sign bit set (-0 too): all but the first of the three cases, finite with the sign bit clear
+unfoldable pub partsOf : Format → Float → Parts
+partsOf f nan = Special
+partsOf f (inf s) = Special
+partsOf f (fin true m e) = Negative (magnitudeOf f (fin true m e))
+partsOf f (fin false m e) = Plain (magnitudeOf f (fin false m e))
+
+-- the parts are the float: they have its sign, and mantissa * 2 ^ exponent, the fraction of `up` and `down`, is its size; or it is not finite
+abbrev pub IsValue : Float → Parts → Type 0
+IsValue x (Plain v) = HasValue x false (v .mantissa * up (v .exponent)) (down (v .exponent))
+IsValue x (Negative v) = HasValue x true (v .mantissa * up (v .exponent)) (down (v .exponent))
+IsValue x Special = T (not (finite x))
