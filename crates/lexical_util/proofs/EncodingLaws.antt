@@ -1,35 +1,41 @@
 -- Masks, shifts and signed sums on a bit pattern, as the code has them, are the fields of it. One proof for both widths. Assumes nothing.
 use Prim.Native.Nat.{ℕ, suc, _+_, _-_, _*_, _/_, _%_, _^_, _≤_, _<_}
-use mathlib.Core.Path.{_≡_, refl, sym, ap, ap₂, _∙_, subst}
-use mathlib.Core.Bool.{true, false}
-use native.Mathlib.Nat.{mod-lt}
+use mathlib.Core.Path.{_≡_, sym, ap, _∙_}
+use mathlib.Core.Bool.{Bool, true, false}
+use native.Mathlib.Nat.{mod-lt, mul-le-mul-right}
 use native.Mathlib.Omega.{arith}
 use borrow.Author.Tests.{eq-eqb, ne-eqb}
 use lib.Bits.{bitAnd, and-mask}
-use lib.IntN.{ℤ, pos, negsuc, _-ℤ_}
+use lib.IntN.{ℤ, pos, _+ℤ_, _-ℤ_}
+use lib.Signed.{ltZ}
 use lib.Pow.{pow-pos}
-use lib.Ieee.{Format, binary32, binary64, prec, low, hid, ones, top, minus, ofBits}
+use lib.Ieee.{Format, binary32, binary64, prec, emax, low, hid, ones, top, minus, ofBits}
 use mir.Syntax.{w16, w64}
 use mir.Val.{Fits, SFits, toZ, ofZ}
-use mir.Facts.{toZ-ofZ, toZ-pos}
-use Rattle.lexical_util.specs.declared.num.Encoding.{Encoding}
+use mir.Facts.{toZ-ofZ}
+use Rattle.lexical_util.specs.declared.encoding.Encoding.{Encoding}
 use Rattle.lexical_util.specs.declared.num.Magnitude.{Magnitude}
+use Rattle.lexical_util.specs.declared.pattern.Pattern.{Pattern}
 use Rattle.lexical_util.specs.declared.num.Parts.the-variants.{Plain, Negative, Special}
-use Rattle.lexical_util.specs.Encoding.{encodingOf}
-use Rattle.lexical_util.specs.Parts.{magnitudeOf, partsOf}
-use Rattle.lexical_util.proofs.DifferenceLaws.{minus-fits, difference-fits, difference-is}
-use Rattle.lexical_util.proofs.PartsLaws.{bitsOf, finite-below, magnitude-bits, parts-bits, special-bits}
+use Rattle.lexical_util.specs.Encoding.{encodingOf, bitsOf}
+use Rattle.lexical_util.specs.Pattern.{BitsOf, IsBits}
+use Rattle.lexical_util.specs.Parts.{magnitudeOf, partsOf, fitting}
+use Rattle.lexical_util.proofs.DifferenceLaws.{minus-fits, minus-add, difference-fits, difference-is}
+use Rattle.lexical_util.proofs.PatternLaws.{few-is, too-long, no-lead, too-large, too-low, past, sum-is, sum-over}
+use Rattle.lexical_util.proofs.PartsLaws.{finite-below, magnitude-bits, parts-bits, special-bits}
 
 -- what is known of the two widths' numbers
 pub record Small (f : Format) : Type 0 where
   pub size : prec f - 1 < 64
-  pub hidden : hid f < 9223372036854775808
+  pub hidden : hid f ≤ 4503599627370496
+  pub largest : 2 * emax f < 2047
+  pub words : top f ≤ 9223372036854775808
   pub exponents : ones f < 32768
   pub least : low f < 32767
 
 pub small : (f : Format) → Small f
-small binary32 = record { size = omega arith; hidden = omega arith; exponents = omega arith; least = omega arith }
-small binary64 = record { size = omega arith; hidden = omega arith; exponents = omega arith; least = omega arith }
+small binary32 = record { size = omega arith; hidden = omega arith; largest = omega arith; words = omega arith; exponents = omega arith; least = omega arith }
+small binary64 = record { size = omega arith; hidden = omega arith; largest = omega arith; words = omega arith; exponents = omega arith; least = omega arith }
 
 -- ---- at the width's own masks, the code's answer is the magnitude
 module _ (f : Format) (E : Encoding) (is : E ≡ encodingOf f) (bits : ℕ) (h : bits < ones f * hid f) where
@@ -88,3 +94,57 @@ module _ (f : Format) (E : Encoding) (is : E ≡ encodingOf f) where
 
   pub special-negative : (bits : ℕ) → E .«sign_mask» ≤ bits → E .«exponent_mask» ≤ bits - E .«sign_mask» → bits < 2 * top f → Special ≡ partsOf f (ofBits f bits)
   special-negative bits l h few = sym (from-sign bits l ∙ special-bits f true (bits - E .«sign_mask») (rw infinity at h) (omega (arith, sign)))
+
+-- ---- the way back: the code's tests tell which m and k fit
+module _ (f : Format) (E : Encoding) (is : E ≡ encodingOf f) (m k : ℕ) where
+  hidden : E .«hidden_bit_mask» ≡ hid f
+  hidden = ap (λ (E : Encoding). E .«hidden_bit_mask») is
+
+  pub twice-fits : Fits w64 (2 * E .«hidden_bit_mask»)
+  twice-fits = record { fits = omega (arith, hidden, small f .hidden) }
+
+  pub long-no : 2 * E .«hidden_bit_mask» < m → fitting f m (minus k (low f)) ≡ false
+  long-no h = too-long f m k (rw hidden at h)
+
+  pub denormal-bits : m < E .«hidden_bit_mask» → k ≡ 0 → BitsOf f m (minus k (low f)) m
+  denormal-bits h e = few-is f m k (rw hidden at h) e
+
+  pub lead-no : m < E .«hidden_bit_mask» → (k ≡ 0 → ⊥) → fitting f m (minus k (low f)) ≡ false
+  lead-no h l = no-lead f m k (rw hidden at h) l
+
+  pub lift-no : E .«hidden_bit_mask» ≤ m → 2047 < k → fitting f m (minus k (low f)) ≡ false
+  lift-no h l = too-large f m k (past f m k (rw hidden at h) (omega (arith, small f .largest)))
+
+  pub lifted-fits : k ≤ 2047 → Fits w64 (k * E .«hidden_bit_mask»)
+  lifted-fits l = record { fits = omega (arith, mul-le-mul-right (E .«hidden_bit_mask») l, hidden, small f .hidden) }
+
+  pub sum-fits : k ≤ 2047 → m ≤ 2 * E .«hidden_bit_mask» → Fits w64 (k * E .«hidden_bit_mask» + m)
+  sum-fits l h = record { fits = omega (arith, mul-le-mul-right (E .«hidden_bit_mask») l, hidden, small f .hidden) }
+
+  pub bits-yes : E .«hidden_bit_mask» ≤ m → m ≤ 2 * E .«hidden_bit_mask» → k * E .«hidden_bit_mask» + m < E .«exponent_mask» → BitsOf f m (minus k (low f)) (k * E .«hidden_bit_mask» + m)
+  bits-yes lo hi h = rw is (sum-is f m k (rw is at lo) (rw is at hi) (rw is at h))
+
+  pub bits-no : E .«hidden_bit_mask» ≤ m → m ≤ 2 * E .«hidden_bit_mask» → E .«exponent_mask» ≤ k * E .«hidden_bit_mask» + m → fitting f m (minus k (low f)) ≡ false
+  bits-no lo hi h = sum-over f m k (rw is at lo) (rw is at hi) (rw is at h)
+
+-- ---- a sign joined to the bits below it
+module _ (f : Format) (E : Encoding) (is : E ≡ encodingOf f) (n : ℕ) where
+  pub signed-fits : n < ones f * hid f → Fits w64 (E .«sign_mask» + n)
+  signed-fits h = record { fits = omega (arith, sign f E is, small f .words, finite-below f n h .0) }
+
+  pub sign-set : (s : Bool) → s ≡ true → E .«sign_mask» + n ≡ bitsOf f s n
+  sign-set s e = rw (e, sign f E is)
+
+  pub sign-clear : (s : Bool) → s ≡ false → n ≡ bitsOf f s n
+  sign-clear s e = rw e
+
+-- ---- an exponent against the least one, both as the code has them
+module _ (f : Format) (E : Encoding) (is : E ≡ encodingOf f) (m : ℕ) (e : ℤ) (h : SFits w16 e) where
+  least : toZ w16 (ofZ w16 (E .«denormal_exponent»)) ≡ minus 0 (low f)
+  least = rw is (toZ-ofZ (minus-fits w16 0 (low f) (omega arith) (omega (arith, small f .least))))
+
+  pub low-no : ltZ (toZ w16 (ofZ w16 e)) (toZ w16 (ofZ w16 (E .«denormal_exponent»))) ≡ true → fitting f m e ≡ false
+  low-no t = too-low f m e (rw (toZ-ofZ h, least) at t)
+
+  pub lift-is : (k : ℕ) (r : Pattern) → toZ w16 (ofZ w16 e) ≡ toZ w16 (ofZ w16 (E .«denormal_exponent»)) +ℤ pos k → IsBits f m (minus k (low f)) r → IsBits f m e r
+  lift-is k r l b = rw (sym (toZ-ofZ h) ∙ l ∙ ap (λ (z : ℤ). z +ℤ pos k) least ∙ minus-add k (low f)) b

@@ -4,6 +4,7 @@ pub mod DifferenceLaws
 pub mod EncodingLaws
 pub mod FloatLaws
 pub mod PartsLaws
+pub mod PatternLaws
 pub mod PowerLaws
 pub mod RadixLaws
 pub mod Worked

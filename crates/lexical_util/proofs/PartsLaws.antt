@@ -1,15 +1,15 @@
 -- What the bits of a float say of it: its sign, whether it is finite, and its value by mantissa and exponent. One proof for both widths. Assumes nothing.
 use Prim.Native.Nat.{ℕ, zero, suc, _+_, _-_, _*_, _/_, _%_, _^_, _≤_, _<_}
-use mathlib.Core.Path.{_≡_, refl, sym, ap, ap₂, _∙_, subst}
+use mathlib.Core.Path.{_≡_, refl, sym, ap, _∙_, subst}
 use mathlib.Core.Bool.{Bool, true, false, not, cond}
-use native.Mathlib.Nat.{suc-mul, mul-comm, mul-right-comm, eq-of-mul-eq-mul-right, add-mod-left, mod-eq-of-lt, div-eq-of-lt-le, mul-add-div, mul-add-mod-self-left, div-lt-iff-lt-mul}
+use native.Mathlib.Nat.{suc-mul, mul-comm, add-mod-left, mod-eq-of-lt, div-eq-of-lt-le, mul-add-div, mul-add-mod-self-left, div-lt-iff-lt-mul}
 use native.Mathlib.Numerals.{add-one}
 use native.Mathlib.Omega.{arith}
-use borrow.Author.Tests.{le-leb, lt-leb, le-ltb, eq-eqb, ne-eqb}
+use borrow.Author.Tests.{le-leb, lt-leb, eq-eqb, ne-eqb}
 use lib.Dec.{T, leb, eqb}
-use lib.IntN.{ℤ, pos, negsuc}
+use lib.IntN.{ℤ}
 use lib.Pow.{pow-pos}
-use lib.Ieee.{Float, nan, inf, fin, Format, binary32, binary64, prec, low, hid, ones, top, up, down, minus, odd, ofFields, ofBits, toBits, nanBits, fits, isNan, ne}
+use lib.Ieee.{Float, nan, inf, fin, Format, prec, low, hid, ones, top, up, down, minus, odd, ofFields, ofBits, toBits, fits, isNan, ne}
 use lib.Ieee.Bits.{cond-no, ofBits-toBits, toBits-ofBits, toBits-lt}
 use lib.Ieee.Compare.{differs-from-itself, nan-differs}
 use lib.Ieee.Digits.{minus-val}
@@ -19,15 +19,12 @@ use Rattle.lexical_util.specs.declared.num.Magnitude.{Magnitude}
 use Rattle.lexical_util.specs.declared.num.Parts.{Parts}
 use Rattle.lexical_util.specs.declared.num.Parts.the-variants.{Plain, Negative, Special}
 use Rattle.lexical_util.specs.Num.{mantissa, exponent}
+use Rattle.lexical_util.specs.Encoding.{bitsOf}
 use Rattle.lexical_util.specs.Parts.{magnitudeOf, partsOf, IsValue}
 use Rattle.lexical_util.proofs.DifferenceLaws.{by-larger, minus-suc}
 use Rattle.lexical_util.proofs.FloatLaws.{same-fraction}
 
 -- ---- a bit pattern: the sign, and the bits n below it
-abbrev pub bitsOf : Format → Bool → ℕ → ℕ
-bitsOf f true n = top f + n
-bitsOf f false n = n
-
 pub record Below (f : Format) (s : Bool) (n : ℕ) : Type 0 where
   pub few : bitsOf f s n < 2 * top f
   pub sign : leb (top f) (bitsOf f s n) ≡ s
@@ -71,7 +68,7 @@ fields-value f s (suc x) t h =
     let less : suc x - 1 ≡ x = omega arith in
     rw (ne-eqb (suc x) 0 (λ (e : suc x ≡ 0). omega arith), less, small) (odd-sign (prec f) s (hid f + t) x (low f))
 
-units-value : (f : Format) (s : Bool) (n : ℕ) → n < ones f * hid f → HasValue (ofBits f (bitsOf f s n)) s (mantissaBits f n * 2 ^ (n / hid f - 1)) (2 ^ low f)
+pub units-value : (f : Format) (s : Bool) (n : ℕ) → n < ones f * hid f → HasValue (ofBits f (bitsOf f s n)) s (mantissaBits f n * 2 ^ (n / hid f - 1)) (2 ^ low f)
 unfolding ofBits
 units-value f s n h =
     let b = finite-below f n h in
@@ -79,7 +76,7 @@ units-value f s n h =
     rw (w .sign, w .rest, w .stored) (fields-value f s (n / hid f) (n % hid f) (b .1))
 
 -- ---- from one denominator to another: q * 2 ^ a / 2 ^ l is q * 2 ^ (a - l)
-value-shift : (x : Float) (s : Bool) (q a l : ℕ) → HasValue x s (q * 2 ^ a) (2 ^ l) → HasValue x s (q * up (minus a l)) (down (minus a l))
+pub value-shift : (x : Float) (s : Bool) (q a l : ℕ) → HasValue x s (q * 2 ^ a) (2 ^ l) → HasValue x s (q * up (minus a l)) (down (minus a l))
 value-shift nan s q a l h = h
 value-shift (inf t) s q a l h = h
 value-shift (fin t m e) s q a l h =
@@ -97,7 +94,7 @@ pub bits-value : (f : Format) (s : Bool) (n : ℕ) → n < ones f * hid f → Ha
 bits-value f s n h = rw (lifted f (n / hid f)) (value-shift (ofBits f (bitsOf f s n)) s (mantissaBits f n) (n / hid f - 1) (low f) (units-value f s n h))
 
 -- ---- the parts of a finite float
-value-no-nan : (x : Float) (s : Bool) (a c : ℕ) → HasValue x s a c → T (not (isNan x))
+pub value-no-nan : (x : Float) (s : Bool) (a c : ℕ) → HasValue x s a c → T (not (isNan x))
 unfolding isNan
 value-no-nan nan s a c h = absurd h
 value-no-nan (inf t) s a c h = tt

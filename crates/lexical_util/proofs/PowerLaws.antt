@@ -1,7 +1,7 @@
 -- Powers of two and significant bits: what a power says of its exponent, and of how many bits a number has. Assumes nothing.
-use Prim.Native.Nat.{ℕ, suc, _+_, _*_, _^_, _≤_, _<_}
+use Prim.Native.Nat.{ℕ, suc, _+_, _^_, _≤_, _<_}
 use mathlib.Core.Path.{_≡_, ap, _∙_}
-use native.Mathlib.Nat.{le-antisymm, le-of-suc-le-suc, le-trans, lt-of-not-le, not-le-of-lt, lt-of-lt-of-le, pow-succ'}
+use native.Mathlib.Nat.{le-antisymm, le-of-suc-le-suc, lt-of-not-le, not-le-of-lt, lt-of-lt-of-le, pow-succ'}
 use native.Mathlib.Omega.{arith}
 use lib.Count.{leadingZeros, leading-length}
 use lib.Pow.{pow-mono, pow-lt, pow-pos}

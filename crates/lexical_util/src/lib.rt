@@ -1,14 +1,20 @@
 // What every call shares: its answer, digit bytes and digit values, a float's parts.
 pub mod answer;
 pub mod digit;
+mod encoding;
 pub mod num;
+mod pattern;
 
 pub use answer::Refusal;
 pub use answer::Written;
 pub use digit::DigitValue;
 pub use digit::digit_value;
 pub use digit::is_radix;
+pub use num::FromF32;
+pub use num::FromF64;
 pub use num::Magnitude;
 pub use num::Parts;
+pub use num::f32_from_parts;
+pub use num::f64_from_parts;
 pub use num::parts_f32;
 pub use num::parts_f64;

@@ -1,9 +1,11 @@
 // Derived from lexical-util/src/num.rs, changed: one body on u64 with the width beside it instead of a trait, and sign, infinities and NaN as cases of one answer.
 ghost use mathlib.Core.Path.{_≡_};
-ghost use Prim.Native.Nat.{_*_, _<_};
-ghost use lib.Ieee.{Float, binary32, binary64, hid, ones, top, ofBits};
-ghost use Rattle.lexical_util.specs.Encoding.{formatOf, encodingOf};
-ghost use Rattle.lexical_util.specs.Parts.{magnitudeOf, partsOf, IsValue};
+ghost use lib.Ieee.{Float, binary32, binary64};
+ghost use Rattle.lexical_util.specs.Parts.{partsOf, IsValue, floatFrom, ofFromF64, ofFromF32, IsExact};
+use crate::encoding::Width;
+use crate::encoding::parts_of_bits;
+use crate::pattern::Pattern;
+use crate::pattern::bits_of_parts;
 
 // A value mantissa * 2^exponent. Every float's exponent fits an i16.
 pub struct Magnitude {
@@ -21,84 +23,15 @@ pub enum Parts {
     Special,
 }
 
-pub(crate) enum Width {
-    Binary32,
-    Binary64,
+// The float of a sign, a mantissa and an exponent, if these fit.
+pub enum FromF64 {
+    Float(f64),
+    NoFloat,
 }
 
-// Where the fields of a bit pattern stand, and how its exponent is counted.
-pub(crate) struct Encoding {
-    mantissa_size: u32,
-    hidden_bit_mask: u64,
-    exponent_mask: u64,
-    sign_mask: u64,
-    exponent_bias: i16,
-    denormal_exponent: i16,
-}
-
-fn encoding_of(width: Width) -> Encoding
-    ensures { λ r. ⌜ r ≡ encodingOf (formatOf width) ⌝ }
-{
-    match width {
-        Width::Binary32 => Encoding {
-            mantissa_size: 23,
-            hidden_bit_mask: 0x80_0000,
-            exponent_mask: 0x7f80_0000,
-            sign_mask: 0x8000_0000,
-            exponent_bias: 150,
-            denormal_exponent: -149,
-        },
-        Width::Binary64 => Encoding {
-            mantissa_size: 52,
-            hidden_bit_mask: 0x10_0000_0000_0000,
-            exponent_mask: 0x7ff0_0000_0000_0000,
-            sign_mask: 0x8000_0000_0000_0000,
-            exponent_bias: 1075,
-            denormal_exponent: -1074,
-        },
-    }
-}
-
-// Mantissa and exponent of the bits below the sign.
-fn magnitude_of_bits(bits: u64, width: Width) -> Magnitude
-    requires { ⌜ bits < ones (formatOf width) * hid (formatOf width) ⌝ }
-    ensures { λ r. ⌜ r ≡ magnitudeOf (formatOf width) (ofBits (formatOf width) bits) ⌝ }
-{
-    let encoding = encoding_of(width);
-    let hidden = encoding.hidden_bit_mask;
-    let stored = bits & (hidden - 1);
-    let biased = bits >> encoding.mantissa_size;
-    if biased == 0 {
-        return Magnitude {
-            mantissa: stored,
-            exponent: encoding.denormal_exponent,
-        };
-    }
-    Magnitude {
-        mantissa: hidden + stored,
-        exponent: biased as i16 - encoding.exponent_bias,
-    }
-}
-
-// The parts of any bit pattern of the width.
-fn parts_of_bits(bits: u64, width: Width) -> Parts
-    requires { ⌜ bits < 2 * top (formatOf width) ⌝ }
-    ensures { λ r. ⌜ r ≡ partsOf (formatOf width) (ofBits (formatOf width) bits) ⌝ }
-{
-    let encoding = encoding_of(width);
-    let infinity = encoding.exponent_mask;
-    let sign = encoding.sign_mask;
-    if bits < infinity {
-        return Parts::Plain(magnitude_of_bits(bits, width));
-    }
-    if bits < sign {
-        return Parts::Special;
-    }
-    let below = bits - sign;
-    if below < infinity {
-        return Parts::Negative(magnitude_of_bits(below, width));
-    }
-    Parts::Special
+pub enum FromF32 {
+    Float(f32),
+    NoFloat,
 }
 
 // A NaN is told by `x != x`: its bits are not defined.
@@ -120,4 +53,27 @@ pub fn parts_f32(x: f32) -> Parts
         return Parts::Special;
     }
     parts_of_bits(f32::to_bits(x) as u64, Width::Binary32)
+}
+
+// The float with this sign and this magnitude, where mantissa and exponent fit it.
+pub fn f64_from_parts(negative: bool, value: Magnitude) -> FromF64
+    ensures { λ r. ⌜ ofFromF64 r ≡ floatFrom binary64 negative value ⌝ }
+    ensures value { λ r. ⌜ IsExact negative value (ofFromF64 r) ⌝ }
+{
+    let pattern = bits_of_parts(negative, value, Width::Binary64);
+    match pattern {
+        Pattern::NoFloat => FromF64::NoFloat,
+        Pattern::Bits(bits) => FromF64::Float(f64::from_bits(bits)),
+    }
+}
+
+pub fn f32_from_parts(negative: bool, value: Magnitude) -> FromF32
+    ensures { λ r. ⌜ ofFromF32 r ≡ floatFrom binary32 negative value ⌝ }
+    ensures value { λ r. ⌜ IsExact negative value (ofFromF32 r) ⌝ }
+{
+    let pattern = bits_of_parts(negative, value, Width::Binary32);
+    match pattern {
+        Pattern::NoFloat => FromF32::NoFloat,
+        Pattern::Bits(bits) => FromF32::Float(f32::from_bits(bits as u32)),
+    }
 }

@@ -1,11 +1,10 @@
--- `lexical_util::num::parts_of_bits` meets its contract: its tests tell the cases of a bit pattern apart. Assumes nothing.
-use mathlib.Core.Path.{ap}
+-- `lexical_util::encoding::parts_of_bits` meets its contract: its tests tell the cases of a bit pattern apart. Assumes nothing.
 use borrow.Author.Needs.{needs}
 use lib.Ieee.{Format}
 use Rattle.lexical_util.specs.Encoding.{formatOf}
 use Rattle.lexical_util.proofs.EncodingLaws as L
-use Rattle.lexical_util.proofs.num.parts_of_bits.Statement.{statement}
-use Rattle.lexical_util.proofs.num.parts_of_bits.Tie as tie
+use Rattle.lexical_util.proofs.encoding.parts_of_bits.Statement.{statement}
+use Rattle.lexical_util.proofs.encoding.parts_of_bits.Tie as tie
 
 abbrev f : tie.Start → Format
 f c = formatOf (c .args .width)

@@ -1,10 +1,10 @@
--- `lexical_util::num::encoding_of` meets its contract, by evaluation at each width. Assumes nothing.
+-- `lexical_util::encoding::encoding_of` meets its contract, by evaluation at each width. Assumes nothing.
 use mathlib.Core.Path.{sym, ap}
 use borrow.Author.Needs.{needs}
-use Rattle.lexical_util.specs.declared.num.Width.{Width}
+use Rattle.lexical_util.specs.declared.encoding.Width.{Width}
 use Rattle.lexical_util.specs.Encoding.{formatOf, encodingOf}
-use Rattle.lexical_util.proofs.num.encoding_of.Statement.{statement}
-use Rattle.lexical_util.proofs.num.encoding_of.Tie as tie
+use Rattle.lexical_util.proofs.encoding.encoding_of.Statement.{statement}
+use Rattle.lexical_util.proofs.encoding.encoding_of.Tie as tie
 
 enum-told : tie.Need-enum-told
 enum-told c = search needs

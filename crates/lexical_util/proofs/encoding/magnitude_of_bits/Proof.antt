@@ -1,10 +1,10 @@
--- `lexical_util::num::magnitude_of_bits` meets its contract: its masks and sums are the fields of the bits. Assumes nothing.
+-- `lexical_util::encoding::magnitude_of_bits` meets its contract: its masks and sums are the fields of the bits. Assumes nothing.
 use borrow.Author.Needs.{needs}
 use lib.Ieee.{Format}
 use Rattle.lexical_util.specs.Encoding.{formatOf}
 use Rattle.lexical_util.proofs.EncodingLaws as L
-use Rattle.lexical_util.proofs.num.magnitude_of_bits.Statement.{statement}
-use Rattle.lexical_util.proofs.num.magnitude_of_bits.Tie as tie
+use Rattle.lexical_util.proofs.encoding.magnitude_of_bits.Statement.{statement}
+use Rattle.lexical_util.proofs.encoding.magnitude_of_bits.Tie as tie
 
 abbrev f : tie.Start → Format
 f c = formatOf (c .args .width)
