@@ -5,6 +5,7 @@ pub mod EncodingLaws
 pub mod FloatLaws
 pub mod PartsLaws
 pub mod PatternLaws
+pub mod ExponentLaws
 pub mod PowerLaws
 pub mod RadixLaws
 pub mod Worked

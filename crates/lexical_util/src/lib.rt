@@ -4,6 +4,7 @@ pub mod digit;
 mod encoding;
 pub mod num;
 mod pattern;
+pub mod exponent;
 
 pub use answer::Refusal;
 pub use answer::Written;
@@ -18,3 +19,7 @@ pub use num::f32_from_parts;
 pub use num::f64_from_parts;
 pub use num::parts_f32;
 pub use num::parts_f64;
+pub use exponent::BaseExponent;
+pub use exponent::BitExponent;
+pub use exponent::DigitExponent;
+pub use exponent::unsigned_abs;
