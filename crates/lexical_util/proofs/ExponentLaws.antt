@@ -1,14 +1,17 @@
--- The laws of the three exponents: a signed number's magnitude. Assumes nothing.
-use Prim.Native.Nat.{ℕ, suc}
-use mathlib.Core.Path.{_≡_, refl, ap}
+-- The laws of the three exponents: a signed number's magnitude, division rounded up, and p as floor (s / b). Assumes nothing.
+use Prim.Native.Nat.{ℕ, zero, suc, _+_, _-_, _*_, _/_, _≤_, _<_}
+use mathlib.Core.Path.{_≡_, refl, sym, ap, _∙_}
 use mathlib.Core.Bool.{true, false}
+use native.Mathlib.Nat.{zero-mul, suc-mul, mul-div-le, lt-mul-div-succ, div-zero, div-mul-le-self, lt-div-mul-add, div-eq-of-lt-le, div-lt-iff-lt-mul, lt-of-le-of-lt}
+use native.Mathlib.Numerals.{add-one}
 use native.Mathlib.Omega.{arith}
-use borrow.Author.Tests.{ltb-true, le-ltb}
-use lib.Dec.{T}
-use lib.IntN.{ℤ, pos, negsuc, natAbs, _-ℤ_}
-use lib.Signed.{mag, ltZ, nonNeg}
+use borrow.Author.Tests.{ltb-true, lt-ltb, le-ltb}
+use lib.Dec.{T, le→leb, lt→ltb}
+use lib.IntN.{ℤ, pos, negsuc, negℤ, natAbs, _+ℤ_, _-ℤ_, _*ℤ_}
+use lib.Signed.{mag, ltZ, nonNeg, mag-shr, _≤ℤ_, _<ℤ_, leZ-yes, ltZ-yes}
 use mir.Syntax.{w32}
 use mir.Val.{SFits}
+use Rattle.lexical_util.specs.Num.{place}
 
 -- ---- a signed number below 0, and its magnitude
 pub not-below : (z : ℤ) → ltZ z (pos 0) ≡ false → T (nonNeg z)
@@ -26,3 +29,59 @@ below-fits z h f = rw (below-is z h) (record { sfits = f .sfits })
 pub below-abs : (z : ℤ) → ltZ z (pos 0) ≡ true → natAbs z ≡ suc (mag z)
 below-abs (pos n) h = let k = ltb-true n 0 h in absurd (omega arith)
 below-abs (negsuc n) h = refl
+
+-- ---- v / b rounded up
+pub ceil-bounds : (v b n : ℕ) → 0 < b → n ≡ v + (b - 1) → (v ≤ n / b * b) × (n / b * b < v + b)
+ceil-bounds v b n h e = (omega (arith, lt-div-mul-add {a = n} h), omega (arith, div-mul-le-self n b))
+
+pub quotient-lt : (n b k : ℕ) → 0 < b → n < k * b → n / b < k
+quotient-lt n b k h l = div-lt-iff-lt-mul {x = n} {y = k} h .1 l
+
+-- ---- p, by s's sign
+pub place-fits : (b : ℕ) (s : ℤ) → SFits w32 s → SFits w32 (place b s)
+place-fits b s h = record { sfits = lt-of-le-of-lt (mag-shr s b) (h .sfits) }
+
+ceil-floor : (n b q : ℕ) → suc n ≤ suc q * b → suc q * b < suc n + b → n / b ≡ q
+ceil-floor n b q h k = div-eq-of-lt-le b (omega (arith, suc-mul q b)) (omega (arith, add-one q))
+
+pub place-below : (s : ℤ) (b r : ℕ) → ltZ s (pos 0) ≡ true → natAbs s ≤ r * b → r * b < natAbs s + b → pos 0 -ℤ pos r ≡ place b s
+place-below (pos n) b r h u l = let k = ltb-true n 0 h in absurd (omega arith)
+place-below (negsuc n) b zero h u l = absurd (omega (arith, zero-mul b))
+place-below (negsuc n) b (suc q) h u l =
+    rw (lt-ltb 0 (suc q) (omega arith)) (ap negsuc ((let z : suc q - 1 ≡ q = omega arith in z) ∙ sym (ceil-floor n b q u l)))
+
+pub place-above : (s : ℤ) (b : ℕ) → ltZ s (pos 0) ≡ false → pos (natAbs s / b) ≡ place b s
+place-above (pos n) b h = refl
+place-above (negsuc n) b h = cc
+
+-- digits of no bits, which no radix has
+pub place-none-below : (s : ℤ) (b : ℕ) → ltZ s (pos 0) ≡ true → b ≡ 0 → negsuc 0 ≡ place b s
+place-none-below (pos n) b h e = let k = ltb-true n 0 h in absurd (omega arith)
+place-none-below (negsuc n) b h e = rw e (ap negsuc (sym (div-zero n)))
+
+pub place-none-above : (s : ℤ) (b : ℕ) → ltZ s (pos 0) ≡ false → b ≡ 0 → pos 0 ≡ place b s
+place-none-above (pos n) b h e = rw e (ap pos (sym (div-zero n)))
+place-none-above (negsuc n) b h e = cc
+
+-- ---- what floor means: b * p ≤ s < b * (p + 1)
+minus-le : (k n : ℕ) → n < k → negℤ (pos k) ≤ℤ negsuc n
+minus-le zero n h = absurd (omega arith)
+minus-le (suc k) n h = leZ-yes (le→leb n k (omega arith))
+
+lt-minus : (k n : ℕ) → k ≤ n → negsuc n <ℤ negℤ (pos k)
+lt-minus zero n h = ltZ-yes tt
+lt-minus (suc k) n h = ltZ-yes (lt→ltb k n h)
+
+pub floor-le : (b : ℕ) (s : ℤ) → 0 < b → (pos b *ℤ place b s) ≤ℤ s
+floor-le b (pos n) h = leZ-yes (le→leb (b * (n / b)) n (mul-div-le n b))
+floor-le b (negsuc n) h = minus-le (b * suc (n / b)) n (rw add-one at (lt-mul-div-succ n h))
+
+pub lt-floor : (b : ℕ) (s : ℤ) → 0 < b → s <ℤ (pos b *ℤ (place b s +ℤ pos 1))
+lt-floor b (pos n) h = ltZ-yes (lt→ltb n (b * (n / b + 1)) (lt-mul-div-succ n h))
+lt-floor b (negsuc n) h = go (n / b) (mul-div-le n b)
+  where
+    go : (q : ℕ) → b * q ≤ n → negsuc n <ℤ (pos b *ℤ (negsuc q +ℤ pos 1))
+    go zero k = ltZ-yes tt
+    go (suc q) k =
+        let less : suc (suc q) - 2 ≡ q = omega arith in
+        rw (lt-ltb 1 (suc (suc q)) (omega arith), less) (lt-minus (b * suc q) n k)

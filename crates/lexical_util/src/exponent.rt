@@ -1,6 +1,8 @@
 // The three exponents of a value: document 01, "An exponent in bits, one in digits and one in powers of the base are three separate counts". Only the functions here turn one into another.
 ghost use mathlib.Core.Path.{_≡_};
+ghost use Prim.Native.Nat.{_+_, _*_, _≤_, _<_};
 ghost use lib.IntN.{natAbs};
+ghost use Rattle.lexical_util.specs.Num.{place};
 
 // In bits: s, or any exponent of two.
 pub struct BitExponent(pub i32);
@@ -20,4 +22,33 @@ pub fn unsigned_abs(value: i32) -> u32
         return below as u32 + 1;
     }
     value as u32
+}
+
+// value / base, rounded up. The sum is taken at twice the width, where it has room.
+fn fast_ceildiv(value: u32, base: u32) -> u32
+    requires { ⌜ 0 < base ⌝ }
+    ensures enough { λ r. ⌜ value ≤ r * base ⌝ }
+    ensures least { λ r. ⌜ r * base < value + base ⌝ }
+{
+    let more = base - 1;
+    ((value as u64 + more as u64) / base as u64) as u32
+}
+
+// The place of a value's first digit: s / b toward minus infinity, so that of a negative s the magnitude is rounded up. No radix has digits of no bits; there the definition has -1 for a negative s, and else 0.
+pub fn digit_exponent(s: BitExponent, bits_per_digit: u32) -> DigitExponent
+    ensures { λ r. ⌜ r .0 ≡ place «bits_per_digit» (s .0) ⌝ }
+{
+    let bits = s.0;
+    let magnitude = unsigned_abs(bits);
+    if bits < 0 {
+        if bits_per_digit == 0 {
+            return DigitExponent(-1);
+        }
+        let digits = fast_ceildiv(magnitude, bits_per_digit);
+        return DigitExponent((0 - digits as i64) as i32);
+    }
+    if bits_per_digit == 0 {
+        return DigitExponent(0);
+    }
+    DigitExponent((magnitude / bits_per_digit) as i32)
 }
