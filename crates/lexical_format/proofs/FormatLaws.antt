@@ -4,7 +4,6 @@ use mathlib.Core.Path.{_≡_, refl, sym, ap, _∙_, subst}
 use mathlib.Core.Bool.{Bool, true, false, not, cond, _&&_, _||_}
 use mathlib.Core.List.{List, [], _∷_, _++_}
 use mathlib.Core.Option.{Option, none, some}
-use native.Mathlib.Nat.{mul-assoc, mul-div-cancel}
 use native.Mathlib.Omega.{arith}
 use borrow.Author.Tests.{eqb-true, ltb-false}
 use lib.Dec.{T, ltb, leb, eqb, eqb→eq, ltb→lt, leb→le}
@@ -14,6 +13,7 @@ use Rattle.lexical_util.specs.Answer.{done, refused, Check, checked}
 use Rattle.lexical_util.specs.Digit.{isDigit, isRadix}
 use Rattle.lexical_util.specs.Num.{power}
 use Rattle.lexical_util.proofs.AnswerLaws.{refused-done, Passed, passed}
+use Rattle.lexical_util.proofs.ExponentLaws.{power-exact}
 use Rattle.lexical_format.specs.declared.format.Pair.{Pair}
 use Rattle.lexical_format.specs.declared.format.NumberFormat.{NumberFormat}
 use Rattle.lexical_format.specs.declared.options.Options.{Options}
@@ -30,10 +30,7 @@ pub record IsPair (p : Pair) : Type 0 where
 
 -- so p * b / c is whole
 pub power-whole : (row : Pair) (p : ℤ) → IsPair row → power (row .b) (row .c) p * row .c ≡ natAbs p * row .b
-power-whole row p P =
-    let g = row .b / row .c in
-    let e : natAbs p * row .b ≡ natAbs p * g * row .c = ap (λ (b : ℕ). natAbs p * b) (sym (P .whole)) ∙ sym (mul-assoc (natAbs p) g (row .c)) in
-    rw (e, mul-div-cancel (natAbs p * g) (P .base-bits))
+power-whole row p P = power-exact (row .b) (row .c) p (P .whole)
 
 abbrev test : Pair → Bool
 test p = eqb (p .radix) (2 ^ p .b) && eqb (p .base) (2 ^ p .c) && ltb 0 (p .b) && leb (p .b) 5 && ltb 0 (p .c) && eqb (p .b / p .c * p .c) (p .b)

@@ -1,19 +1,23 @@
--- The laws of the three exponents: a signed number's magnitude, division rounded up, and p as floor (s / b). Assumes nothing.
+-- The laws of the three exponents: a signed number's magnitude, division rounded up, p as floor (s / b), and p * b / c. Assumes nothing.
 use Prim.Native.Nat.{ℕ, zero, suc, _+_, _-_, _*_, _/_, _≤_, _<_}
 use mathlib.Core.Path.{_≡_, refl, sym, ap, _∙_}
 use mathlib.Core.Bool.{true, false}
-use native.Mathlib.Nat.{zero-mul, suc-mul, mul-div-le, lt-mul-div-succ, div-zero, div-mul-le-self, lt-div-mul-add, div-eq-of-lt-le, div-lt-iff-lt-mul, lt-of-le-of-lt}
+use native.Mathlib.Nat.{zero-mul, suc-mul, mul-le-mul, mul-div-le, lt-mul-div-succ, div-zero, div-mul-le-self, lt-div-mul-add, div-eq-of-lt-le, div-lt-iff-lt-mul, div-mul-cancel, dvd-mul-left, dvd-mul-left-of-dvd, lt-of-le-of-lt}
 use native.Mathlib.Numerals.{add-one}
 use native.Mathlib.Omega.{arith}
 use borrow.Author.Tests.{ltb-true, lt-ltb, le-ltb}
 use lib.Dec.{T, le→leb, lt→ltb}
 use lib.IntN.{ℤ, pos, negsuc, negℤ, natAbs, _+ℤ_, _-ℤ_, _*ℤ_}
 use lib.Signed.{mag, ltZ, nonNeg, mag-shr, _≤ℤ_, _<ℤ_, leZ-yes, ltZ-yes}
-use mir.Syntax.{w32}
-use mir.Val.{SFits}
-use Rattle.lexical_util.specs.Num.{place}
+use mir.Syntax.{w32, w64}
+use mir.Val.{Fits, SFits}
+use Rattle.lexical_util.specs.Num.{place, isNegative, power}
 
 -- ---- a signed number below 0, and its magnitude
+pub sign-is : (z : ℤ) → ltZ z (pos 0) ≡ isNegative z
+sign-is (pos n) = le-ltb n 0 (omega arith)
+sign-is (negsuc n) = refl
+
 pub not-below : (z : ℤ) → ltZ z (pos 0) ≡ false → T (nonNeg z)
 not-below (pos n) h = tt
 not-below (negsuc n) h = let k : _≡_ {A = ℕ} 0 1 = cc in absurd (omega arith)
@@ -85,3 +89,16 @@ lt-floor b (negsuc n) h = go (n / b) (mul-div-le n b)
     go (suc q) k =
         let less : suc (suc q) - 2 ≡ q = omega arith in
         rw (lt-ltb 1 (suc (suc q)) (omega arith), less) (lt-minus (b * suc q) n k)
+
+-- ---- p * b / c
+-- the product of two numbers of 32 bits
+pub product-fits : (a b : ℕ) → a < 4294967296 → b < 4294967296 → Fits w64 (a * b)
+product-fits a b h k = record { fits = omega (arith, mul-le-mul {n₁ = a} {m₁ = b} {n₂ = 4294967295} {m₂ = 4294967295} (omega arith) (omega arith)) }
+
+-- a base of no bits, which no pair has
+pub power-none : (b c : ℕ) (p : ℤ) → c ≡ 0 → 0 ≡ power b c p
+power-none b c p e = rw e (sym (div-zero (natAbs p * b)))
+
+-- whole where c divides b
+pub power-exact : (b c : ℕ) (p : ℤ) → b / c * c ≡ b → power b c p * c ≡ natAbs p * b
+power-exact b c p h = div-mul-cancel c (dvd-mul-left-of-dvd c (rw h at (dvd-mul-left c (b / c))) (natAbs p))

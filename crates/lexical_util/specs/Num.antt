@@ -2,7 +2,7 @@
 use Prim.Native.Nat.{ℕ, zero, suc, _+_, _-_, _*_, _/_, _%_}
 use mathlib.Core.Bool.{Bool, true, false, cond}
 use lib.Dec.{eqb}
-use lib.IntN.{ℤ, pos, natAbs, _+ℤ_}
+use lib.IntN.{ℤ, pos, negsuc, natAbs, _+ℤ_}
 use lib.Signed.{shrZ}
 use lib.Ieee.{Float, nan, inf, fin, Format, low, hid, ones, minus, size, toBits}
 
@@ -41,6 +41,11 @@ scale (suc m) e = e +ℤ pos (significantBits (suc m) - 1)
 -- p, in digits of b bits: floor (s / b), toward minus infinity
 abbrev pub place : ℕ → ℤ → ℤ
 place b s = shrZ s b
+
+-- p's sign
+abbrev pub isNegative : ℤ → Bool
+isNegative (pos n) = false
+isNegative (negsuc n) = true
 
 -- p * b / c, in powers of the base 2 ^ c: its magnitude; its sign is p's. It is whole, since c divides b in every pair.
 abbrev pub power : ℕ → ℕ → ℤ → ℕ

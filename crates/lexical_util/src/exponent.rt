@@ -1,8 +1,8 @@
 // The three exponents of a value: document 01, "An exponent in bits, one in digits and one in powers of the base are three separate counts". Only the functions here turn one into another.
 ghost use mathlib.Core.Path.{_≡_};
-ghost use Prim.Native.Nat.{_+_, _*_, _≤_, _<_};
+ghost use Prim.Native.Nat.{_+_, _*_, _/_, _≤_, _<_};
 ghost use lib.IntN.{natAbs};
-ghost use Rattle.lexical_util.specs.Num.{place};
+ghost use Rattle.lexical_util.specs.Num.{place, isNegative, power};
 
 // In bits: s, or any exponent of two.
 pub struct BitExponent(pub i32);
@@ -51,4 +51,19 @@ pub fn digit_exponent(s: BitExponent, bits_per_digit: u32) -> DigitExponent
         return DigitExponent(0);
     }
     DigitExponent((magnitude / bits_per_digit) as i32)
+}
+
+// The exponent that a text has for a place: p * b / c, which is whole where c divides b, as in every pair. The product is taken at twice the width, where it has room. No base has no bits; there the definition has 0.
+pub fn base_exponent(p: DigitExponent, bits_per_digit: u32, bits_per_base: u32) -> BaseExponent
+    ensures sign { λ r. ⌜ r .0 ≡ isNegative (p .0) ⌝ }
+    ensures magnitude { λ r. ⌜ r .1 ≡ power «bits_per_digit» «bits_per_base» (p .0) ⌝ }
+    ensures exact { λ r. ⌜ («bits_per_digit» / «bits_per_base» * «bits_per_base» ≡ «bits_per_digit» → r .1 * «bits_per_base» ≡ natAbs (p .0) * «bits_per_digit») ⌝ }
+{
+    let digits = p.0;
+    let negative = digits < 0;
+    if bits_per_base == 0 {
+        return BaseExponent(negative, 0);
+    }
+    let bits = unsigned_abs(digits) as u64 * bits_per_digit as u64;
+    BaseExponent(negative, bits / bits_per_base as u64)
 }

@@ -22,5 +22,6 @@ pub use num::parts_f64;
 pub use exponent::BaseExponent;
 pub use exponent::BitExponent;
 pub use exponent::DigitExponent;
+pub use exponent::base_exponent;
 pub use exponent::digit_exponent;
 pub use exponent::unsigned_abs;
