@@ -1,5 +1,5 @@
--- The laws of the three exponents: a signed number's magnitude, division rounded up, p as floor (s / b), and p * b / c. Assumes nothing.
-use Prim.Native.Nat.{ℕ, zero, suc, _+_, _-_, _*_, _/_, _≤_, _<_}
+-- The laws of the three exponents: s by significant bits, a signed number's magnitude, division rounded up, p as floor (s / b), and p * b / c. Assumes nothing.
+use Prim.Native.Nat.{ℕ, zero, suc, _+_, _-_, _*_, _/_, _^_, _≤_, _<_}
 use mathlib.Core.Path.{_≡_, refl, sym, ap, _∙_}
 use mathlib.Core.Bool.{true, false}
 use native.Mathlib.Nat.{zero-mul, suc-mul, mul-le-mul, mul-div-le, lt-mul-div-succ, div-zero, div-mul-le-self, lt-div-mul-add, div-eq-of-lt-le, div-lt-iff-lt-mul, div-mul-cancel, dvd-mul-left, dvd-mul-left-of-dvd, lt-of-le-of-lt}
@@ -9,9 +9,52 @@ use borrow.Author.Tests.{ltb-true, lt-ltb, le-ltb}
 use lib.Dec.{T, le→leb, lt→ltb}
 use lib.IntN.{ℤ, pos, negsuc, negℤ, natAbs, _+ℤ_, _-ℤ_, _*ℤ_}
 use lib.Signed.{mag, ltZ, nonNeg, mag-shr, _≤ℤ_, _<ℤ_, leZ-yes, ltZ-yes}
-use mir.Syntax.{w32, w64}
-use mir.Val.{Fits, SFits}
-use Rattle.lexical_util.specs.Num.{place, isNegative, power}
+use lib.Count.{leadingZeros}
+use lib.Ieee.{size}
+use lib.Ieee.Digits.{size-lt, size-le, size-reaches}
+use mir.Syntax.{w16, w32, w64}
+use mir.Val.{Fits, SFits, toZ, ofZ}
+use mir.Facts.{toZ-ofZ, toZ-pos}
+use Rattle.lexical_util.specs.Num.{scale, place, isNegative, power}
+use Rattle.lexical_util.proofs.DifferenceLaws.{by-larger, widened}
+use Rattle.lexical_util.proofs.PowerLaws.{size-zero, size-some, leading-size}
+
+-- ---- significant bits by leading zeros, and s
+pub bits-are : (x : ℕ) → x < 2 ^ 64
+    → (64 - leadingZeros 64 x ≡ size x) × ((64 - leadingZeros 64 x ≤ 64) × (x < 2 ^ (64 - leadingZeros 64 x)) × (0 < x → 2 ^ (64 - leadingZeros 64 x - 1) ≤ x))
+bits-are x h =
+    let e : 64 - leadingZeros 64 x ≡ size x = omega (arith, leading-size 64 x h) in
+    (e, rw e (size-le x 64 h, size-lt x, λ p. size-reaches x (size x - 1) (omega (arith, size-some x p))))
+
+pub scale-zero : (m : ℕ) (e : ℤ) → size m ≡ 0 → pos 0 ≡ scale m e
+scale-zero zero e h = refl
+scale-zero (suc m) e h = absurd (omega (arith, size-some (suc m) (omega arith)))
+
+pub scale-some : (m : ℕ) (e : ℤ) → (size m ≡ 0 → ⊥) → e +ℤ pos (size m - 1) ≡ scale m e
+scale-some zero e h = absurd (h size-zero)
+scale-some (suc m) e h = refl
+
+-- an exponent of 16 bits and a count of bits
+sum-fits : (e : ℤ) (n : ℕ) → SFits w16 e → n < 64 → SFits w32 (e +ℤ pos n)
+sum-fits (pos k) n h l = record { sfits = omega (arith, h .sfits) }
+sum-fits (negsuc k) n h l =
+    by-larger n (suc k) (SFits w32 (negsuc k +ℤ pos n))
+    (λ g. rw (le-ltb n (suc k) g) (record { sfits = omega arith }))
+    (λ g. rw (lt-ltb n (suc k) g) (record { sfits = omega (arith, h .sfits) }))
+
+-- as the code adds them
+module _ (e : ℤ) (n : ℕ) (h : SFits w16 e) (l : n < 64) where
+  abbrev pub coded-sum : ℤ
+  coded-sum = toZ w32 (ofZ w32 (toZ w16 (ofZ w16 e))) +ℤ toZ w32 n
+
+  coded-is : coded-sum ≡ e +ℤ pos n
+  coded-is = rw (widened e h .1, toZ-pos w32 {n = n} (omega arith))
+
+  pub coded-sum-fits : SFits w32 coded-sum
+  coded-sum-fits = rw coded-is (sum-fits e n h l)
+
+  pub coded-sum-is : toZ w32 (ofZ w32 coded-sum) ≡ e +ℤ pos n
+  coded-sum-is = rw coded-is (toZ-ofZ (sum-fits e n h l))
 
 -- ---- a signed number below 0, and its magnitude
 pub sign-is : (z : ℤ) → ltZ z (pos 0) ≡ isNegative z
@@ -76,11 +119,11 @@ lt-minus : (k n : ℕ) → k ≤ n → negsuc n <ℤ negℤ (pos k)
 lt-minus zero n h = ltZ-yes tt
 lt-minus (suc k) n h = ltZ-yes (lt→ltb k n h)
 
-pub floor-le : (b : ℕ) (s : ℤ) → 0 < b → (pos b *ℤ place b s) ≤ℤ s
+floor-le : (b : ℕ) (s : ℤ) → 0 < b → (pos b *ℤ place b s) ≤ℤ s
 floor-le b (pos n) h = leZ-yes (le→leb (b * (n / b)) n (mul-div-le n b))
 floor-le b (negsuc n) h = minus-le (b * suc (n / b)) n (rw add-one at (lt-mul-div-succ n h))
 
-pub lt-floor : (b : ℕ) (s : ℤ) → 0 < b → s <ℤ (pos b *ℤ (place b s +ℤ pos 1))
+lt-floor : (b : ℕ) (s : ℤ) → 0 < b → s <ℤ (pos b *ℤ (place b s +ℤ pos 1))
 lt-floor b (pos n) h = ltZ-yes (lt→ltb n (b * (n / b + 1)) (lt-mul-div-succ n h))
 lt-floor b (negsuc n) h = go (n / b) (mul-div-le n b)
   where
@@ -89,6 +132,9 @@ lt-floor b (negsuc n) h = go (n / b) (mul-div-le n b)
     go (suc q) k =
         let less : suc (suc q) - 2 ≡ q = omega arith in
         rw (lt-ltb 1 (suc (suc q)) (omega arith), less) (lt-minus (b * suc q) n k)
+
+pub floored : (b : ℕ) (s r : ℤ) → r ≡ place b s → (r ≡ place b s) × (0 < b → ((pos b *ℤ r) ≤ℤ s) × (s <ℤ (pos b *ℤ (r +ℤ pos 1))))
+floored b s r e = (e, λ h. rw e (floor-le b s h, lt-floor b s h))
 
 -- ---- p * b / c
 -- the product of two numbers of 32 bits

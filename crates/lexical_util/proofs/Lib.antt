@@ -1,11 +1,11 @@
 pub mod AnswerLaws
-pub mod DigitLaws
 pub mod DifferenceLaws
+pub mod DigitLaws
 pub mod EncodingLaws
+pub mod ExponentLaws
 pub mod FloatLaws
 pub mod PartsLaws
 pub mod PatternLaws
-pub mod ExponentLaws
 pub mod PowerLaws
 pub mod RadixLaws
 pub mod Worked

@@ -1,8 +1,11 @@
-// The three exponents of a value: document 01, "An exponent in bits, one in digits and one in powers of the base are three separate counts". Only the functions here turn one into another.
+// Derived from `significant_bits`, `fast_ceildiv` and `scale_sci_exp` of lexical-write-float/src/binary.rs and hex.rs, changed: each exponent has a type of its own, and nothing wraps.
+// Document 01: "An exponent in bits, one in digits and one in powers of the base are three separate counts". Only the functions here turn one into another.
 ghost use mathlib.Core.Path.{_≡_};
-ghost use Prim.Native.Nat.{_+_, _*_, _/_, _≤_, _<_};
-ghost use lib.IntN.{natAbs};
-ghost use Rattle.lexical_util.specs.Num.{place, isNegative, power};
+ghost use Prim.Native.Nat.{_+_, _-_, _*_, _/_, _^_, _≤_, _<_};
+ghost use lib.IntN.{pos, natAbs, _+ℤ_, _*ℤ_};
+ghost use lib.Signed.{_≤ℤ_, _<ℤ_};
+ghost use Rattle.lexical_util.specs.Num.{significantBits, scale, place, isNegative, power};
+use crate::num::Magnitude;
 
 // In bits: s, or any exponent of two.
 pub struct BitExponent(pub i32);
@@ -12,6 +15,25 @@ pub struct DigitExponent(pub i32);
 
 // In powers of the base, as a text has it: whether it is negative, and its magnitude.
 pub struct BaseExponent(pub bool, pub u64);
+
+// The width less the leading zeros: the least number of bits that hold the value.
+pub fn significant_bits(value: u64) -> u32
+    ensures { λ r. ⌜ r ≡ significantBits value ⌝ }
+    ensures bounds { λ r. ⌜ (r ≤ 64) × (value < 2 ^ r) × (0 < value → 2 ^ (r - 1) ≤ value) ⌝ }
+{
+    64 - u64::leading_zeros(value)
+}
+
+// s: the exponent of the value's leading bit, and 0 for zero.
+pub fn sci_exp(value: Magnitude) -> BitExponent
+    ensures { λ r. ⌜ r .0 ≡ scale (value .mantissa) (value .exponent) ⌝ }
+{
+    let bits = significant_bits(value.mantissa);
+    if bits == 0 {
+        return BitExponent(0);
+    }
+    BitExponent(value.exponent as i32 + (bits - 1) as i32)
+}
 
 // The magnitude of a signed number: -1 - value has room where -value has none, at the least number.
 pub fn unsigned_abs(value: i32) -> u32
@@ -37,6 +59,7 @@ fn fast_ceildiv(value: u32, base: u32) -> u32
 // The place of a value's first digit: s / b toward minus infinity, so that of a negative s the magnitude is rounded up. No radix has digits of no bits; there the definition has -1 for a negative s, and else 0.
 pub fn digit_exponent(s: BitExponent, bits_per_digit: u32) -> DigitExponent
     ensures { λ r. ⌜ r .0 ≡ place «bits_per_digit» (s .0) ⌝ }
+    ensures floor { λ r. ⌜ (0 < «bits_per_digit» → ((pos «bits_per_digit» *ℤ r .0) ≤ℤ s .0) × (s .0 <ℤ (pos «bits_per_digit» *ℤ (r .0 +ℤ pos 1)))) ⌝ }
 {
     let bits = s.0;
     let magnitude = unsigned_abs(bits);

@@ -9,7 +9,7 @@ use mir.Syntax.{w32, w64}
 use mir.Val.{SFits, toZ, ofZ}
 use mir.Facts.{toZ-ofZ, toZ-pos, sfits-widen}
 use Rattle.lexical_util.specs.Num.{place}
-use Rattle.lexical_util.proofs.ExponentLaws.{place-fits, place-below, place-above, place-none-below, place-none-above}
+use Rattle.lexical_util.proofs.ExponentLaws.{place-fits, place-below, place-above, place-none-below, place-none-above, floored}
 use Rattle.lexical_util.proofs.exponent.digit_exponent.Statement.{statement}
 use Rattle.lexical_util.proofs.exponent.digit_exponent.Tie as tie
 
@@ -39,7 +39,7 @@ unsigned-abs-requires : tie.Need-unsigned-abs-requires
 unsigned-abs-requires c κs = search needs
 
 returns : tie.Need-returns
-returns c = place-none-below (c .before .before .before .before .args .s .0) _ (negative (c .before)) (c .if2 .taken)
+returns c = floored _ _ _ (place-none-below (c .before .before .before .before .args .s .0) _ (negative (c .before)) (c .if2 .taken))
 
 fast-ceildiv-requires : tie.Need-fast-ceildiv-requires
 fast-ceildiv-requires c κs = search needs
@@ -65,10 +65,10 @@ cast-t10 : tie.Need-cast-t10
 cast-t10 c = rw (below c, toZ-ofZ (below-fits c)) (wanted-fits (c .before .before .before .before))
 
 returns-2 : tie.Need-returns-2
-returns-2 c = rw (below c, toZ-ofZ (below-fits c), toZ-ofZ (wanted-fits (c .before .before .before .before)))
+returns-2 c = floored _ _ _ (rw (below c, toZ-ofZ (below-fits c), toZ-ofZ (wanted-fits (c .before .before .before .before))))
 
 returns-3 : tie.Need-returns-3
-returns-3 c = place-none-above (c .before .before .before .before .args .s .0) _ (other (c .before)) (c .if3 .taken)
+returns-3 c = floored _ _ _ (place-none-above (c .before .before .before .before .args .s .0) _ (other (c .before)) (c .if3 .taken))
 
 div-t11 : tie.Need-div-t11
 div-t11 c = search needs
@@ -81,7 +81,7 @@ cast-t12 c =
 returns-4 : tie.Need-returns-4
 returns-4 c =
     let a = c .before .before .before .before .args in
-    toZ-pos w32 (cast-t12 c .sfits) ∙ rw (magnitude (c .before .before)) (place-above (a .s .0) (a .bits-per-digit) (other (c .before)))
+    floored _ _ _ (toZ-pos w32 (cast-t12 c .sfits) ∙ rw (magnitude (c .before .before)) (place-above (a .s .0) (a .bits-per-digit) (other (c .before))))
 
 pub digit-exponent-spec : {M : Type 1} → statement M
 digit-exponent-spec =
