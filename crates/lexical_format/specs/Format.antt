@@ -8,6 +8,8 @@ use lib.IntN.{ℤ, pos, negsuc}
 use lib.Signed.{ltZ}
 use Rattle.lexical_util.specs.Answer.{Answer, done, refused, Check, checked}
 use Rattle.lexical_util.specs.Digit.{isDigit, isRadix}
+use Rattle.lexical_format.specs.declared.format.FoundPair.{FoundPair}
+use Rattle.lexical_format.specs.declared.format.FoundPair.the-variants.{Row, Unknown}
 use Rattle.lexical_format.specs.declared.format.Pair.{Pair}
 use Rattle.lexical_format.specs.declared.format.NumberFormat.{NumberFormat}
 use Rattle.lexical_format.specs.declared.options.Options.{Options}
@@ -90,3 +92,9 @@ readingFormat F o = checkedPair (readingChecks F o) (pairOf F)
 -- the writer's 1 to 6
 unfoldable pub writingFormat : NumberFormat → Options → Answer Pair
 writingFormat F o = checkedPair (readingChecks F o ++ writingChecks F o) (pairOf F)
+
+-- ---- what the calls answer
+-- the row that each case of `FoundPair` stands for
+abbrev pub ofFoundPair : FoundPair → Option Pair
+ofFoundPair (Row row) = some row
+ofFoundPair Unknown = none
