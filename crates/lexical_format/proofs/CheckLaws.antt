@@ -1,13 +1,14 @@
--- The laws of the format's check: the search of the table. Assumes nothing.
+-- The laws of the format's check: the search of the table, and a digit as point or mark. Assumes nothing.
 use Prim.Native.Nat.{ℕ, _+_, _<_}
-use mathlib.Core.Path.{_≡_}
-use mathlib.Core.Bool.{Bool, true, false, _&&_}
+use mathlib.Core.Path.{_≡_, refl}
+use mathlib.Core.Bool.{Bool, true, false, cond, _&&_}
 use mathlib.Core.List.{List}
-use mathlib.Core.Option.{some}
+use mathlib.Core.Option.{none, some}
 use native.Mathlib.Numerals.{add-one}
-use lib.Dec.{eqb}
+use lib.Dec.{ltb, eqb}
 use lib.ListN.{length, drop, getD}
 use lib.Seq.{drop-cons}
+use Rattle.lexical_util.specs.Digit.{digitValue, isSome, digitIn, isDigit}
 use Rattle.lexical_format.specs.declared.format.Pair.{Pair}
 use Rattle.lexical_format.specs.Format.{findPair}
 
@@ -23,3 +24,16 @@ module _ (radix base : ℕ) (rows : List Pair) (i : ℕ) (other : Pair) (inside 
   pub find-next : wanted ≡ false → findPair radix base (drop i rows) ≡ findPair radix base (drop (i + 1) rows)
   unfolding findPair
   find-next e = rw (add-one, drop-cons rows i other inside, e)
+
+-- ---- a byte by its digit value
+pub digit-of : (radix x d : ℕ) → digitValue x ≡ some d → ltb d radix ≡ isDigit radix x
+unfolding isDigit digitIn
+digit-of radix x d e = rw e (go (ltb d radix))
+  where
+    go : (t : Bool) → t ≡ isSome (cond t (some d) none)
+    go true = refl
+    go false = refl
+
+pub no-digit : (radix x : ℕ) → digitValue x ≡ none → false ≡ isDigit radix x
+unfolding isDigit digitIn
+no-digit radix x e = rw e

@@ -1,4 +1,5 @@
 // A format of number text: radix and base of an exponent, flags, options.
+pub mod checks;
 pub mod format;
 pub mod options;
 

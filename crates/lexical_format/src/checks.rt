@@ -1,0 +1,29 @@
+// The checks of a format, for which the Rust has assertions: document 01, refusals 1 to 6 in their order. The reader stops after 3.
+ghost use mathlib.Core.Path.{_≡_};
+ghost use Rattle.lexical_format.specs.Format.{badByte, badBytes, outside};
+use crate::format::NumberFormat;
+use crate::options::Options;
+use lexical_util::DigitValue;
+
+// A byte that neither point nor mark may be: outside 33 to 126, "+", "-", or a digit of the radix.
+fn bad_byte(radix: u32, byte: u8) -> bool
+    ensures { λ r. ⌜ r ≡ badByte radix byte ⌝ }
+{
+    if byte < 33 || byte > 126 || byte == b'+' || byte == b'-' {
+        return true;
+    }
+    match lexical_util::digit_value(byte) {
+        DigitValue::Digit(digit) => (digit as u32) < radix,
+        DigitValue::NoDigit => false,
+    }
+}
+
+// 3: a bad point, a bad mark, or the two equal.
+fn bad_bytes(format: NumberFormat, options: Options) -> bool
+    ensures { λ r. ⌜ r ≡ badBytes format options ⌝ }
+{
+    let radix = format.mantissa_radix;
+    let point = options.decimal_point;
+    let mark = options.exponent;
+    bad_byte(radix, point) || bad_byte(radix, mark) || point == mark
+}
