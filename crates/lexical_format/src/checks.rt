@@ -1,6 +1,6 @@
 // The checks of a format, for which the Rust has assertions: document 01, refusals 1 to 6 in their order. The reader stops after 3.
 ghost use mathlib.Core.Path.{_≡_};
-ghost use Rattle.lexical_format.specs.Format.{badByte, badBytes, outside};
+ghost use Rattle.lexical_format.specs.Format.{badByte, badBytes, badCounts, outside};
 use crate::format::NumberFormat;
 use crate::options::Options;
 use lexical_util::DigitValue;
@@ -26,4 +26,13 @@ fn bad_bytes(format: NumberFormat, options: Options) -> bool
     let point = options.decimal_point;
     let mark = options.exponent;
     bad_byte(radix, point) || bad_byte(radix, mark) || point == mark
+}
+
+// 5: a count above 1,200, or both given and least above most.
+fn bad_counts(options: Options) -> bool
+    ensures { λ r. ⌜ r ≡ badCounts options ⌝ }
+{
+    let least = options.min_significant_digits;
+    let most = options.max_significant_digits;
+    least > 1200 || most > 1200 || least != 0 && most != 0 && least > most
 }
