@@ -1,6 +1,6 @@
 // The checks of a format, for which the Rust has assertions: document 01, refusals 1 to 6 in their order. The reader stops after 3.
 ghost use mathlib.Core.Path.{_≡_};
-ghost use Rattle.lexical_format.specs.Format.{badByte, badBytes, badCounts, outside};
+ghost use Rattle.lexical_format.specs.Format.{badByte, badBytes, badCounts, orAbsent, outside};
 use crate::format::NumberFormat;
 use crate::options::Options;
 use lexical_util::DigitValue;
@@ -35,4 +35,18 @@ fn bad_counts(options: Options) -> bool
     let least = options.min_significant_digits;
     let most = options.max_significant_digits;
     least > 1200 || most > 1200 || least != 0 && most != 0 && least > most
+}
+
+// A break; 0 means absent.
+fn or_absent(absent: i32, value: i32) -> i32
+    ensures { λ r. ⌜ r ≡ orAbsent absent value ⌝ }
+{
+    if value == 0 { absent } else { value }
+}
+
+// Out of the range from least to most.
+fn outside(least: i32, most: i32, value: i32) -> bool
+    ensures { λ r. ⌜ r ≡ outside least most value ⌝ }
+{
+    value < least || value > most
 }
