@@ -8,6 +8,8 @@ use lib.IntN.{ℤ, pos, negsuc}
 use lib.Signed.{ltZ}
 use Rattle.lexical_util.specs.Answer.{Answer, done, refused, Check, checked}
 use Rattle.lexical_util.specs.Digit.{isDigit, isRadix}
+use Rattle.lexical_format.specs.declared.checks.ReadingCheck.{ReadingCheck}
+use Rattle.lexical_format.specs.declared.checks.ReadingCheck.the-variants as reading
 use Rattle.lexical_format.specs.declared.format.FoundPair.{FoundPair}
 use Rattle.lexical_format.specs.declared.format.FoundPair.the-variants.{Row, Unknown}
 use Rattle.lexical_format.specs.declared.format.Pair.{Pair}
@@ -98,3 +100,8 @@ writingFormat F o = checkedPair (readingChecks F o ++ writingChecks F o) (pairOf
 abbrev pub ofFoundPair : FoundPair → Option Pair
 ofFoundPair (Row row) = some row
 ofFoundPair Unknown = none
+
+-- document 01's number and values for each case of `ReadingCheck`
+abbrev pub ofReadingCheck : ReadingCheck → Answer Pair
+ofReadingCheck (reading.Passed row) = done row
+ofReadingCheck (reading.Refused r) = refused (r .number) (r .place)

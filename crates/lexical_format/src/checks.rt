@@ -1,9 +1,19 @@
 // The checks of a format, for which the Rust has assertions: document 01, refusals 1 to 6 in their order. The reader stops after 3.
 ghost use mathlib.Core.Path.{_≡_};
-ghost use Rattle.lexical_format.specs.Format.{badByte, badBytes, badCounts, orAbsent, outside};
+ghost use Rattle.lexical_format.specs.Format.{badByte, badBytes, badCounts, orAbsent, outside, readingFormat, ofReadingCheck};
+use crate::format::FoundPair;
 use crate::format::NumberFormat;
+use crate::format::Pair;
+use crate::format::find_pair;
 use crate::options::Options;
 use lexical_util::DigitValue;
+use lexical_util::Refusal;
+
+// What the reader's check answers: the pair's row, or the first refusal.
+pub enum ReadingCheck {
+    Passed(Pair),
+    Refused(Refusal),
+}
 
 // A byte that neither point nor mark may be: outside 33 to 126, "+", "-", or a digit of the radix.
 fn bad_byte(radix: u32, byte: u8) -> bool
@@ -49,4 +59,29 @@ fn outside(least: i32, most: i32, value: i32) -> bool
     ensures { λ r. ⌜ r ≡ outside least most value ⌝ }
 {
     value < least || value > most
+}
+
+// The reader's check: 1, 2, 3, else the pair's row.
+pub fn check_reading(format: NumberFormat, options: Options) -> ReadingCheck
+    ensures { λ r. ⌜ ofReadingCheck r ≡ readingFormat format options ⌝ }
+{
+    let FoundPair::Row(pair) = find_pair(format.mantissa_radix, format.exponent_base) else {
+        return ReadingCheck::Refused(Refusal {
+            number: 1,
+            place: 0,
+        });
+    };
+    if !lexical_util::is_radix(format.exponent_radix) {
+        return ReadingCheck::Refused(Refusal {
+            number: 2,
+            place: 0,
+        });
+    }
+    if bad_bytes(format, options) {
+        return ReadingCheck::Refused(Refusal {
+            number: 3,
+            place: 0,
+        });
+    }
+    ReadingCheck::Passed(pair)
 }

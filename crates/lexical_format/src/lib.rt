@@ -1,8 +1,10 @@
-// A format of number text: radix and base of an exponent, flags, options.
+// A format of number text: radix and base of an exponent, flags, options, and its check.
 pub mod checks;
 pub mod format;
 pub mod options;
 
+pub use checks::ReadingCheck;
+pub use checks::check_reading;
 pub use format::NumberFormat;
 pub use format::Pair;
 pub use options::Options;
