@@ -1,17 +1,24 @@
--- The laws of the format's check: the search of the table, a digit as point or mark, and the breaks. Assumes nothing.
-use Prim.Native.Nat.{ℕ, zero, suc, _+_, _<_}
-use mathlib.Core.Path.{_≡_, refl}
+-- The laws of the format's check: the search of the table, a digit as point or mark, the breaks, and checks in two parts. Assumes nothing.
+use Prim.Native.Nat.{ℕ, zero, suc, _+_, _^_, _<_}
+use mathlib.Core.Path.{_≡_, refl, sym, ap, _∙_}
 use mathlib.Core.Bool.{Bool, true, false, cond, _&&_}
-use mathlib.Core.List.{List}
-use mathlib.Core.Option.{none, some}
+use mathlib.Core.List.{List, [], _∷_, _++_}
+use mathlib.Core.Option.{Option, none, some}
 use native.Mathlib.Numerals.{add-one}
 use lib.Dec.{ltb, eqb}
 use lib.IntN.{ℤ, pos, negsuc}
 use lib.ListN.{length, drop, getD}
 use lib.Seq.{drop-cons}
+use lib.Signed.{mag}
+use mir.Facts.{toZ-ofZ}
+use mir.Syntax.{w32}
+use mir.Val.{hbits, toZ, ofZ}
+use Rattle.lexical_util.specs.Answer.{Answer, done, refused, andThen, Check, checked}
 use Rattle.lexical_util.specs.Digit.{digitValue, isSome, digitIn, isDigit}
 use Rattle.lexical_format.specs.declared.format.Pair.{Pair}
-use Rattle.lexical_format.specs.Format.{findPair, orAbsent}
+use Rattle.lexical_format.specs.declared.format.NumberFormat.{NumberFormat}
+use Rattle.lexical_format.specs.declared.options.Options.{Options}
+use Rattle.lexical_format.specs.Format.{findPair, pairOf, orAbsent, readingChecks, writingChecks, checkedPair, readingFormat, writingFormat, settled, checkedFormat}
 
 -- ---- the search of a table, row by row
 module _ (radix base : ℕ) (rows : List Pair) (i : ℕ) (other : Pair) (inside : i < length rows) where
@@ -40,6 +47,10 @@ unfolding isDigit digitIn
 no-digit radix x e = rw e
 
 -- ---- a break
+-- its bits, read as a number
+pub break-read : (z : ℤ) → mag z < 2 ^ hbits w32 → toZ w32 (ofZ w32 z) ≡ z
+break-read z h = toZ-ofZ (record { sfits = h })
+
 pub break-absent : (absent value : ℤ) → value ≡ pos 0 → absent ≡ orAbsent absent value
 break-absent absent value e = rw e
 
@@ -47,3 +58,32 @@ pub break-given : (absent value : ℤ) → (value ≡ pos 0 → ⊥) → value �
 break-given absent (pos zero) differs = absurd (differs refl)
 break-given absent (pos (suc n)) differs = refl
 break-given absent (negsuc n) differs = refl
+
+-- ---- checks in two parts
+checked-append : {A : Type 0} (before after : List Check) (answer : Answer A) → checked (before ++ after) answer ≡ checked before (checked after answer)
+checked-append [] after answer = refl
+checked-append (c ∷ cs) after answer = ap (cond (c .1) (refused (c .0) 0)) (checked-append cs after answer)
+
+-- a step after checks is taken once they let through
+checked-then : {A B : Type 0} (checks : List Check) (a : A) (step : A → Answer B) → andThen (checked checks (done a)) step ≡ checked checks (step a)
+checked-then [] a step = refl
+checked-then (c ∷ cs) a step = go (c .1) (checked-then cs a step)
+  where
+    go : (t : Bool) → andThen (checked cs (done a)) step ≡ checked cs (step a)
+        → andThen (cond t (refused (c .0) 0) (checked cs (done a))) step ≡ cond t (refused (c .0) 0) (checked cs (step a))
+    go true e = refl
+    go false e = e
+
+-- the writer's check is the reader's, then its own three
+pub writer-after-reader : (F : NumberFormat) (o : Options) → checkedFormat F o ≡ andThen (readingFormat F o) (λ row. checked (writingChecks F o) (done (settled o row)))
+unfolding checkedFormat writingFormat readingFormat
+writer-after-reader F o = go (pairOf F)
+  where
+    go : (found : Option Pair)
+        → andThen (checkedPair (readingChecks F o ++ writingChecks F o) found) (λ row. done (settled o row))
+        ≡ andThen (checkedPair (readingChecks F o) found) (λ row. checked (writingChecks F o) (done (settled o row)))
+    go none = refl
+    go (some row) =
+        checked-then (readingChecks F o ++ writingChecks F o) row (λ row. done (settled o row))
+        ∙ checked-append (readingChecks F o) (writingChecks F o) (done (settled o row))
+        ∙ sym (checked-then (readingChecks F o) row (λ row. checked (writingChecks F o) (done (settled o row))))

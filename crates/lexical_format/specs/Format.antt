@@ -6,10 +6,13 @@ use mathlib.Core.Option.{Option, none, some}
 use lib.Dec.{ltb, eqb}
 use lib.IntN.{ℤ, pos, negsuc}
 use lib.Signed.{ltZ}
-use Rattle.lexical_util.specs.Answer.{Answer, done, refused, Check, checked}
+use Rattle.lexical_util.specs.Answer.{Answer, done, refused, andThen, Check, checked}
 use Rattle.lexical_util.specs.Digit.{isDigit, isRadix}
+use Rattle.lexical_format.specs.declared.checks.CheckedFormat.{CheckedFormat}
 use Rattle.lexical_format.specs.declared.checks.ReadingCheck.{ReadingCheck}
 use Rattle.lexical_format.specs.declared.checks.ReadingCheck.the-variants as reading
+use Rattle.lexical_format.specs.declared.checks.WritingCheck.{WritingCheck}
+use Rattle.lexical_format.specs.declared.checks.WritingCheck.the-variants as writing
 use Rattle.lexical_format.specs.declared.format.FoundPair.{FoundPair}
 use Rattle.lexical_format.specs.declared.format.FoundPair.the-variants.{Row, Unknown}
 use Rattle.lexical_format.specs.declared.format.Pair.{Pair}
@@ -96,12 +99,23 @@ unfoldable pub writingFormat : NumberFormat → Options → Answer Pair
 writingFormat F o = checkedPair (readingChecks F o ++ writingChecks F o) (pairOf F)
 
 -- ---- what the calls answer
+-- what the writer's later steps need: b, c, and the breaks with none absent
+abbrev pub settled : Options → Pair → CheckedFormat
+settled o row = record { b = row .b; c = row .c; «negative_exponent_break» = lowBreak o; «positive_exponent_break» = highBreak o }
+
+unfoldable pub checkedFormat : NumberFormat → Options → Answer CheckedFormat
+checkedFormat F o = andThen (writingFormat F o) (λ row. done (settled o row))
+
 -- the row that each case of `FoundPair` stands for
 abbrev pub ofFoundPair : FoundPair → Option Pair
 ofFoundPair (Row row) = some row
 ofFoundPair Unknown = none
 
--- document 01's number and values for each case of `ReadingCheck`
+-- document 01's number and values for each case of `ReadingCheck` and `WritingCheck`
 abbrev pub ofReadingCheck : ReadingCheck → Answer Pair
 ofReadingCheck (reading.Passed row) = done row
 ofReadingCheck (reading.Refused r) = refused (r .number) (r .place)
+
+abbrev pub ofWritingCheck : WritingCheck → Answer CheckedFormat
+ofWritingCheck (writing.Passed f) = done f
+ofWritingCheck (writing.Refused r) = refused (r .number) (r .place)

@@ -1,6 +1,7 @@
 // The checks of a format, for which the Rust has assertions: document 01, refusals 1 to 6 in their order. The reader stops after 3.
 ghost use mathlib.Core.Path.{_≡_};
-ghost use Rattle.lexical_format.specs.Format.{badByte, badBytes, badCounts, orAbsent, outside, readingFormat, ofReadingCheck};
+ghost use Rattle.lexical_util.specs.Answer.{done, checked};
+ghost use Rattle.lexical_format.specs.Format.{badByte, badBytes, badCounts, orAbsent, outside, readingFormat, checkedFormat, settled, writingChecks, ofReadingCheck, ofWritingCheck};
 use crate::format::FoundPair;
 use crate::format::NumberFormat;
 use crate::format::Pair;
@@ -12,6 +13,20 @@ use lexical_util::Refusal;
 // What the reader's check answers: the pair's row, or the first refusal.
 pub enum ReadingCheck {
     Passed(Pair),
+    Refused(Refusal),
+}
+
+// A format as the writer's later steps need it: b, c, and the breaks, none absent.
+pub struct CheckedFormat {
+    pub b: u32,
+    pub c: u32,
+    pub negative_exponent_break: i32,
+    pub positive_exponent_break: i32,
+}
+
+// What the writer's check answers: what its later steps need, or the first refusal.
+pub enum WritingCheck {
+    Passed(CheckedFormat),
     Refused(Refusal),
 }
 
@@ -84,4 +99,46 @@ pub fn check_reading(format: NumberFormat, options: Options) -> ReadingCheck
         });
     }
     ReadingCheck::Passed(pair)
+}
+
+// 4, 5, 6 of a format that passed the reader's check with the row.
+fn check_writing(format: NumberFormat, options: Options, row: Pair) -> WritingCheck
+    ensures { λ r. ⌜ ofWritingCheck r ≡ checked (writingChecks format options) (done (settled options row)) ⌝ }
+{
+    if format.required_exponent_notation && format.no_exponent_notation {
+        return WritingCheck::Refused(Refusal {
+            number: 4,
+            place: 0,
+        });
+    }
+    if bad_counts(options) {
+        return WritingCheck::Refused(Refusal {
+            number: 5,
+            place: 0,
+        });
+    }
+    let low = or_absent(-5, options.negative_exponent_break);
+    let high = or_absent(9, options.positive_exponent_break);
+    if outside(-2000, -1, low) || outside(1, 2000, high) {
+        return WritingCheck::Refused(Refusal {
+            number: 6,
+            place: 0,
+        });
+    }
+    WritingCheck::Passed(CheckedFormat {
+        b: row.b,
+        c: row.c,
+        negative_exponent_break: low,
+        positive_exponent_break: high,
+    })
+}
+
+// The writer's check: the reader's, then 4, 5, 6.
+pub fn check(format: NumberFormat, options: Options) -> WritingCheck
+    ensures { λ r. ⌜ ofWritingCheck r ≡ checkedFormat format options ⌝ }
+{
+    match check_reading(format, options) {
+        ReadingCheck::Passed(row) => check_writing(format, options, row),
+        ReadingCheck::Refused(refusal) => WritingCheck::Refused(refusal),
+    }
 }

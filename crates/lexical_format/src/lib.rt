@@ -3,7 +3,10 @@ pub mod checks;
 pub mod format;
 pub mod options;
 
+pub use checks::CheckedFormat;
 pub use checks::ReadingCheck;
+pub use checks::WritingCheck;
+pub use checks::check;
 pub use checks::check_reading;
 pub use format::NumberFormat;
 pub use format::Pair;
