@@ -3,6 +3,7 @@ use mathlib.Core.Path.{_≡_, sym, ap, _∙_}
 use mathlib.Core.Bool.{not}
 use mathlib.Core.Option.{some}
 use borrow.Author.Needs.{needs}
+use Rattle.lexical_util.specs.Digit.{isRadix}
 use Rattle.lexical_format.specs.Format.{pairOf, readingFormat, ofFoundPair}
 use Rattle.lexical_format.proofs.checks.check_reading.Statement.{statement}
 use Rattle.lexical_format.proofs.checks.check_reading.Tie as tie
@@ -28,9 +29,13 @@ found c = sym (c .before .before .find-pair .ensures) ∙ ap ofFoundPair (c .pai
 is-radix-requires : tie.Need-is-radix-requires
 is-radix-requires c κs = search needs
 
+-- whether 2 refuses
+radix : (c : tie.After-is-radix) → not (isRadix (c .before .before .before .before .before .args .format .«exponent_radix»)) ≡ not (c .is-radix .result)
+radix c = ap not (sym (c .is-radix .ensures))
+
 returns-2 : tie.Need-returns-2
 unfolding readingFormat
-returns-2 c = rw (found (c .before .before .before), ap not (sym (c .before .is-radix .ensures)) ∙ c .if1 .taken)
+returns-2 c = rw (found (c .before .before .before), radix (c .before) ∙ c .if1 .taken)
 
 bad-bytes-requires : tie.Need-bad-bytes-requires
 bad-bytes-requires c κs = search needs
@@ -39,13 +44,13 @@ returns-3 : tie.Need-returns-3
 unfolding readingFormat
 returns-3 c =
     let r = c .before .before in
-    rw (found (r .before .before .before), ap not (sym (r .before .is-radix .ensures)) ∙ r .if1 .left, sym (c .before .bad-bytes .ensures) ∙ c .if2 .taken)
+    rw (found (r .before .before .before), radix (r .before) ∙ r .if1 .left, sym (c .before .bad-bytes .ensures) ∙ c .if2 .taken)
 
 returns-4 : tie.Need-returns-4
 unfolding readingFormat
 returns-4 c =
     let r = c .before .before in
-    rw (found (r .before .before .before), ap not (sym (r .before .is-radix .ensures)) ∙ r .if1 .left, sym (c .before .bad-bytes .ensures) ∙ c .if2 .left)
+    rw (found (r .before .before .before), radix (r .before) ∙ r .if1 .left, sym (c .before .bad-bytes .ensures) ∙ c .if2 .left)
 
 pub check-reading-spec : {M : Type 1} → statement M
 check-reading-spec =
