@@ -21,6 +21,7 @@ use Rattle.lexical_util.specs.declared.num.Parts.the-variants.{Plain, Ne
 use Rattle.lexical_util.specs.Num.{mantissa, exponent}
 use Rattle.lexical_util.specs.Encoding.{bitsOf}
 use Rattle.lexical_util.specs.Parts.{magnitudeOf, partsOf, IsValue}
+use Rattle.lexical_util.specs.Claims.{PartsAreTheValue}
 use Rattle.lexical_util.proofs.DifferenceLaws.{by-larger, minus-suc}
 use Rattle.lexical_util.proofs.FloatLaws.{same-fraction}
 
@@ -84,7 +85,7 @@ value-shift (fin t m e) s q a l h =
     (h .0, same-fraction (q * 2 ^ a) (2 ^ l) (m * up e) (down e) (q * up w) (down w) (pow-pos l) (sym (h .1)) (sym (minus-val q a l)))
 
 -- the exponent's field counts up from the denormals' exponent, and has a 1 too many where there is a leading bit
-lifted : (f : Format) (x : ℕ) → cond (eqb x 0) (minus 0 (low f)) (minus x (suc (low f))) ≡ minus (x - 1) (low f)
+pub lifted : (f : Format) (x : ℕ) → cond (eqb x 0) (minus 0 (low f)) (minus x (suc (low f))) ≡ minus (x - 1) (low f)
 lifted f zero = refl
 lifted f (suc x) =
     let less : suc x - 1 ≡ x = omega arith in
@@ -144,7 +145,7 @@ signed-value : (x : Float) (s : Bool) (v : Magnitude) → HasValue x s (v .manti
 signed-value x true v h = h
 signed-value x false v h = h
 
-special-value : (f : Format) (x : Float) → partsOf f x ≡ Special → T (not (finite x))
+pub special-value : (f : Format) (x : Float) → partsOf f x ≡ Special → T (not (finite x))
 unfolding partsOf
 special-value f nan e = tt
 special-value f (inf s) e = tt
@@ -163,7 +164,7 @@ pub split-bits : (f : Format) (b : ℕ) → b < 2 * top f → (P : ℕ → Type 
 split-bits f b h P each =
     by-larger b (top f) (P b) (λ l. subst P (let z : top f + (b - top f) ≡ b = omega arith in z) (each true (b - top f) (omega arith))) (λ l. each false b l)
 
-pub parts-value : (f : Format) (x : Float) → T (fits f x) → IsValue x (partsOf f x)
+pub parts-value : PartsAreTheValue
 parts-value f x h =
     subst (λ (y : Float). IsValue y (partsOf f y)) (ofBits-toBits f x h)
     (split-bits f (toBits f x) (toBits-lt f x h) (λ b. IsValue (ofBits f b) (partsOf f (ofBits f b))) (parts-value-bits f))

@@ -1,28 +1,30 @@
 -- The bits of m * 2 ^ k of a width's least values are k * hid + m, with the leading bit or where k is 0; and which m and k fit. One proof for both widths. Assumes nothing.
-use Prim.Native.Nat.{ℕ, suc, _+_, _-_, _*_, _/_, _^_, _≤_, _<_}
-use mathlib.Core.Path.{_≡_, refl, sym, ap, _∙_}
-use mathlib.Core.Bool.{Bool, true, false, _&&_, _||_}
+use Prim.Native.Nat.{ℕ, zero, suc, _+_, _-_, _*_, _/_, _%_, _^_, _≤_, _<_}
+use mathlib.Core.Path.{_≡_, refl, sym, ap, _∙_, subst}
+use mathlib.Core.Bool.{Bool, true, false, cond, _&&_, _||_}
 use mathlib.Core.Option.{none, some}
 use mathlib.Core.Logic.{_⊎_, inl, inr}
-use native.Mathlib.Nat.{one-mul, pos-of-ne-zero, eq-or-lt-of-le, div-eq-of-lt, mod-eq-of-lt, suc-mul, mul-assoc, mul-comm, mul-right-comm, pow-succ', le-trans, le-of-eq, lt-of-lt-of-le, mul-le-mul-right, mul-le-mul-left, mul-lt-mul-of-pos-right, lt-of-mul-lt-mul-right, le-of-mul-le-mul-right}
+use native.Mathlib.Nat.{mod-lt, one-mul, pos-of-ne-zero, eq-or-lt-of-le, div-eq-of-lt, mod-eq-of-lt, suc-mul, mul-assoc, mul-comm, mul-right-comm, pow-succ', le-trans, le-of-eq, lt-of-lt-of-le, mul-le-mul-right, mul-le-mul-left, mul-lt-mul-of-pos-right, lt-of-mul-lt-mul-right, le-of-mul-le-mul-right}
 use native.Mathlib.Omega.{arith}
 use borrow.Author.Tests.{le-leb, lt-leb, lt-ltb, le-ltb, ne-eqb}
 use lib.Arith.{digits-div, digits-mod}
-use lib.Dec.{leb, ltb}
+use lib.Dec.{leb, ltb, eqb}
 use lib.IntN.{ℤ}
 use lib.Signed.{ltZ}
 use lib.Pow.{pow-add, pow-mono, pow-pos, shl-lt}
-use lib.Ieee.{Format, binary32, binary64, prec, emax, low, hid, ones, up, down, minus, ofBits}
-use lib.Ieee.Bits.{ofBits-fits, nanBits-is}
+use lib.Ieee.{fin, Format, binary32, binary64, prec, emax, low, hid, ones, top, up, down, minus, ofBits, toBits}
+use lib.Ieee.Bits.{ofBits-toBits, toBits-lt, ofBits-fits, nanBits-is}
 use lib.Ieee.Digits.{minus-val}
+use lib.Ieee.Exact.{HasValue}
 use lib.Ieee.Fits.{two, reach, down-pos}
 use Rattle.lexical_util.specs.declared.num.Magnitude.{Magnitude}
 use Rattle.lexical_util.specs.Encoding.{bitsOf}
 use Rattle.lexical_util.specs.Pattern.{BitsOf, PatternOf}
-use Rattle.lexical_util.specs.Parts.{fitting, floatFrom, IsExact}
-use Rattle.lexical_util.proofs.DifferenceLaws.{minus-le, lt-not-le}
+use Rattle.lexical_util.specs.Parts.{magnitudeOf, partsOf, fitting, floatFrom, IsExact}
+use Rattle.lexical_util.specs.Claims.{PartsComeBack}
+use Rattle.lexical_util.proofs.DifferenceLaws.{by-larger, minus-le, lt-not-le}
 use Rattle.lexical_util.proofs.FloatLaws.{round-of-value}
-use Rattle.lexical_util.proofs.PartsLaws.{below, finite-below, mantissaBits, units-value, value-shift, value-no-nan}
+use Rattle.lexical_util.proofs.PartsLaws.{below, finite-below, mantissaBits, exponentBits, units-value, value-shift, value-no-nan, lifted, bits-value, magnitude-bits, special-bits, special-value, split-bits}
 
 -- from 2 ^ (emax + 1) on, in least values
 abbrev pub over : Format → ℕ
@@ -191,3 +193,44 @@ module _ (f : Format) (s : Bool) (v : Magnitude) where
   pub float-no : fitting f (v .mantissa) (v .exponent) ≡ false → (none ≡ floatFrom f s v) × IsExact s v none
   unfolding floatFrom
   float-no h = (rw h, tt)
+
+-- ---- there and back
+mantissa-fits : (f : Format) (n : ℕ) → n < ones f * hid f → (mantissaBits f n < 2 * hid f) × ((leb (n / hid f - 1) 0 || leb (hid f) (mantissaBits f n)) ≡ true)
+mantissa-fits f n h = go (n / hid f)
+  where
+    few : n % hid f < hid f
+    few = mod-lt n (pow-pos (prec f - 1))
+
+    go : (x : ℕ) → (cond (eqb x 0) (n % hid f) (hid f + n % hid f) < 2 * hid f) × ((leb (x - 1) 0 || leb (hid f) (cond (eqb x 0) (n % hid f) (hid f + n % hid f))) ≡ true)
+    go zero = (omega (arith, few), refl)
+    go (suc x) = rw (ne-eqb (suc x) 0 (λ (e : suc x ≡ 0). omega arith)) (omega (arith, few), rw (le-leb (hid f) (hid f + n % hid f) (omega arith)) (or-true (leb (suc x - 1) 0)))
+
+bits-fit : (f : Format) (n : ℕ) → n < ones f * hid f → fitting f (mantissaBits f n) (exponentBits f n) ≡ true
+bits-fit f n h =
+    let w = mantissa-fits f n h in
+    let k : n / hid f - 1 < 2 * emax f = omega (arith, finite-below f n h .1, two f, reach f) in
+    rw (lifted f (n / hid f)) (fits-yes f (mantissaBits f n) (n / hid f - 1) (omega (arith, w .0)) (w .1) (under f (mantissaBits f n) (n / hid f - 1) (w .0) k))
+
+from-bits : (f : Format) (s : Bool) (n : ℕ) → n < ones f * hid f → floatFrom f s (record { mantissa = mantissaBits f n; exponent = exponentBits f n }) ≡ some (ofBits f (bitsOf f s n))
+unfolding floatFrom
+from-bits f s n h =
+    let e = exponentBits f n in
+    rw (bits-fit f n h) (ap some (round-of-value f s (ofBits f (bitsOf f s n)) (mantissaBits f n * up e) (down e) (down-pos e) (ofBits-fits f (bitsOf f s n)) (bits-value f s n h)))
+
+bits-back : (f : Format) (s : Bool) (n : ℕ) → n < ones f * hid f → floatFrom f s (magnitudeOf f (ofBits f (bitsOf f s n))) ≡ some (ofBits f (bitsOf f s n))
+bits-back f s n h = ap (floatFrom f s) (magnitude-bits f s n h) ∙ from-bits f s n h
+
+finite-bits : (f : Format) (t s : Bool) (n m : ℕ) (e : ℤ) → n < top f → ofBits f (bitsOf f t n) ≡ fin s m e → floatFrom f s (magnitudeOf f (fin s m e)) ≡ some (fin s m e)
+unfolding partsOf
+finite-bits f t s n m e h is =
+    by-larger n (ones f * hid f) (floatFrom f s (magnitudeOf f (fin s m e)) ≡ some (fin s m e))
+    (λ l. absurd (special-value f (fin s m e) (ap (partsOf f) (sym is) ∙ special-bits f t n l h)))
+    (λ l.
+    let v : HasValue (fin s m e) t (mantissaBits f n * up (exponentBits f n)) (down (exponentBits f n)) = rw is at (bits-value f t n l) in
+    let b : floatFrom f t (magnitudeOf f (fin s m e)) ≡ some (fin s m e) = rw is at (bits-back f t n l) in
+    subst (λ (u : Bool). floatFrom f u (magnitudeOf f (fin s m e)) ≡ some (fin s m e)) (sym (v .0)) b)
+
+pub parts-come-back : PartsComeBack
+parts-come-back f s m e h =
+    let x = fin s m e in
+    split-bits f (toBits f x) (toBits-lt f x h) (λ b. ofBits f b ≡ x → floatFrom f s (magnitudeOf f x) ≡ some x) (λ t n l is. finite-bits f t s n m e l is) (ofBits-toBits f x h)

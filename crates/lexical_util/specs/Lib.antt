@@ -4,5 +4,6 @@ pub mod Num
 pub mod Parts
 pub mod Encoding
 pub mod Pattern
+pub mod Claims
 pub mod Examples
 pub mod PartsExamples
