@@ -48,8 +48,8 @@ module _ (f : Format) (E : Encoding) (is : E ≡ encodingOf f) (bits : ℕ) (h :
   masked : bitAnd bits (E .«hidden_bit_mask» - 1) ≡ bits % hid f
   masked = rw is (and-mask bits (prec f - 1))
 
-  pub with-leading : Fits w64 (E .«hidden_bit_mask» + bitAnd bits (E .«hidden_bit_mask» - 1))
-  with-leading = rw masked (rw is (record { fits = omega (arith, small f .hidden, mod-lt bits (pow-pos (prec f - 1))) }))
+  pub stored-few : (E .«hidden_bit_mask» ≤ 4503599627370496) × (bitAnd bits (E .«hidden_bit_mask» - 1) < 4503599627370496)
+  stored-few = (rw is (small f .hidden), rw masked (omega (arith, small f .hidden, mod-lt bits (pow-pos (prec f - 1)))))
 
   pub biased-fits : SFits w16 (pos (bits / 2 ^ E .«mantissa_size»))
   biased-fits = rw is (record { sfits = omega (arith, small f .exponents, finite-below f bits h .1) })
@@ -115,11 +115,8 @@ module _ (f : Format) (E : Encoding) (is : E ≡ encodingOf f) (m k : ℕ) where
   pub lift-no : E .«hidden_bit_mask» ≤ m → 2047 < k → fitting f m (minus k (low f)) ≡ false
   lift-no h l = too-large f m k (past f m k (rw hidden at h) (omega (arith, small f .largest)))
 
-  pub lifted-fits : k ≤ 2047 → Fits w64 (k * E .«hidden_bit_mask»)
-  lifted-fits l = record { fits = omega (arith, mul-le-mul-right (E .«hidden_bit_mask») l, hidden, small f .hidden) }
-
-  pub sum-fits : k ≤ 2047 → m ≤ 2 * E .«hidden_bit_mask» → Fits w64 (k * E .«hidden_bit_mask» + m)
-  sum-fits l h = record { fits = omega (arith, mul-le-mul-right (E .«hidden_bit_mask») l, hidden, small f .hidden) }
+  pub lifted-few : k ≤ 2047 → (E .«hidden_bit_mask» ≤ 4503599627370496) × (k * E .«hidden_bit_mask» ≤ 2047 * E .«hidden_bit_mask»)
+  lifted-few l = (rw is (small f .hidden), mul-le-mul-right (E .«hidden_bit_mask») l)
 
   pub bits-yes : E .«hidden_bit_mask» ≤ m → m ≤ 2 * E .«hidden_bit_mask» → k * E .«hidden_bit_mask» + m < E .«exponent_mask» → BitsOf f m (minus k (low f)) (k * E .«hidden_bit_mask» + m)
   bits-yes lo hi h = rw is (sum-is f m k (rw is at lo) (rw is at hi) (rw is at h))

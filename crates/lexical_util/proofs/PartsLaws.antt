@@ -5,12 +5,12 @@ use mathlib.Core.Bool.{Bool, true, false, not, cond}
 use native.Mathlib.Nat.{suc-mul, mul-comm, add-mod-left, mod-eq-of-lt, div-eq-of-lt-le, mul-add-div, mul-add-mod-self-left, div-lt-iff-lt-mul}
 use native.Mathlib.Numerals.{add-one}
 use native.Mathlib.Omega.{arith}
-use borrow.Author.Tests.{le-leb, lt-leb, eq-eqb, ne-eqb}
+use borrow.Author.Tests.{le-leb, lt-leb, eq-eqb, ne-eqb, le-ltb}
 use lib.Dec.{T, leb, eqb}
 use lib.IntN.{ℤ}
 use lib.Pow.{pow-pos}
-use lib.Ieee.{Float, nan, inf, fin, Format, prec, low, hid, ones, top, up, down, minus, odd, ofFields, ofBits, toBits, fits, isNan, ne}
-use lib.Ieee.Bits.{cond-no, ofBits-toBits, toBits-ofBits, toBits-lt}
+use lib.Ieee.{Float, nan, inf, fin, Format, prec, low, hid, ones, top, up, down, minus, odd, ofFields, ofBits, toBits, fits, isNan, ne, nanBits}
+use lib.Ieee.Bits.{cond-no, ofBits-toBits, toBits-ofBits, toBits-lt, nanBits-above}
 use lib.Ieee.Compare.{differs-from-itself, nan-differs}
 use lib.Ieee.Digits.{minus-val}
 use lib.Ieee.Exact.{HasValue, odd-sign}
@@ -184,3 +184,7 @@ pub float-parts : (f : Format) (x : Float) (r : Parts) → T (fits f x) → r �
 float-parts f x r h e =
     let p : r ≡ partsOf f x = e ∙ ap (partsOf f) (ofBits-toBits f x h) in
     (p, rw p (parts-value f x h))
+
+-- bits that a test against the infinity's leaves are no NaN's
+pub tested-bits : (f : Format) (b : ℕ) → b % top f ≤ ones f * hid f → T (not (nanBits f b))
+tested-bits f b h = rw (nanBits-above f b, le-ltb (ones f * hid f) (b % top f) h) tt

@@ -1,4 +1,5 @@
 -- `lexical_util::encoding::magnitude_of_bits` meets its contract: its masks and sums are the fields of the bits. Assumes nothing.
+use native.Mathlib.Omega.{arith}
 use borrow.Author.Needs.{needs}
 use lib.Ieee.{Format}
 use Rattle.lexical_util.specs.Encoding.{formatOf}
@@ -25,7 +26,7 @@ returns : tie.Need-returns
 returns c = let k = c .before .before .before in L.denormal-is (f (k .before)) _ (k .encoding-of .ensures) _ (k .before .pre) (c .before .if1 .taken)
 
 add-t7 : tie.Need-add-t7
-add-t7 c = let k = c .before .before in L.with-leading (f (k .before)) _ (k .encoding-of .ensures) _ (k .before .pre)
+add-t7 c = let k = c .before .before in let few = L.stored-few (f (k .before)) _ (k .encoding-of .ensures) _ (k .before .pre) in omega (arith, few .0, few .1)
 
 cast-t9 : tie.Need-cast-t9
 cast-t9 c = let k = c .before .before in L.biased-fits (f (k .before)) _ (k .encoding-of .ensures) _ (k .before .pre)

@@ -6,7 +6,7 @@ use Rattle.lexical_util.proofs.exponent.significant_bits.Statement.{sta
 use Rattle.lexical_util.proofs.exponent.significant_bits.Tie as tie
 
 sub-result : tie.Need-sub-result
-sub-result c = leading-le 64 (c .args .value)
+sub-result c = leading-le 64 _
 
 returns : tie.Need-returns
 returns c = bits-are (c .args .value) (omega arith)

@@ -21,7 +21,7 @@ cast-parts-of-bits : tie.Need-cast-parts-of-bits
 cast-parts-of-bits c = omega (arith, toBits-lt binary32 (c .before .args .x) (held (c .before)))
 
 parts-of-bits-requires : tie.Need-parts-of-bits-requires
-parts-of-bits-requires c κs = toBits-lt binary32 (c .before .args .x) (held (c .before))
+parts-of-bits-requires c κs = omega (arith, toBits-lt binary32 (c .before .args .x) (held (c .before)))
 
 returns-2 : tie.Need-returns-2
 returns-2 c = float-parts binary32 (c .before .before .args .x) _ (held (c .before .before)) (c .parts-of-bits .ensures)

@@ -1,5 +1,6 @@
 -- `lexical_util::num::parts_f64` meets its contract: a NaN has no bits, and every other float is what its bits say. Assumes nothing.
 use mathlib.Core.Path.{sym, subst}
+use native.Mathlib.Omega.{arith}
 use lib.Dec.{T}
 use lib.Ieee.{binary64, fits}
 use lib.Ieee.Bits.{toBits-lt}
@@ -17,7 +18,7 @@ float-to-bits-parts-of-bits : tie.Need-float-to-bits-parts-of-bits
 float-to-bits-parts-of-bits c = no-nan (c .before .args .x) (c .if1 .left)
 
 parts-of-bits-requires : tie.Need-parts-of-bits-requires
-parts-of-bits-requires c κs = toBits-lt binary64 (c .before .args .x) (held (c .before))
+parts-of-bits-requires c κs = omega (arith, toBits-lt binary64 (c .before .args .x) (held (c .before)))
 
 returns-2 : tie.Need-returns-2
 returns-2 c = float-parts binary64 (c .before .before .args .x) _ (held (c .before .before)) (c .parts-of-bits .ensures)

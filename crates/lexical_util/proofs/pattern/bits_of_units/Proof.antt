@@ -1,4 +1,6 @@
 -- `lexical_util::pattern::bits_of_units` meets its contract: its tests tell which mantissa and exponent fit. Assumes nothing.
+use Prim.Native.Nat.{_*_, _≤_}
+use native.Mathlib.Omega.{arith}
 use borrow.Author.Needs.{needs}
 use lib.Ieee.{Format}
 use Rattle.lexical_util.specs.Encoding.{formatOf}
@@ -8,6 +10,11 @@ use Rattle.lexical_util.proofs.pattern.bits_of_units.Tie as tie
 
 abbrev f : tie.Start → Format
 f c = formatOf (c .args .width)
+
+-- where the lift is small, the sum fits
+lifted : (c : tie.Else4) → (c .before .before .before .encoding-of .result .«hidden_bit_mask» ≤ 4503599627370496)
+    × (c .before .before .before .before .args .lift * c .before .before .before .encoding-of .result .«hidden_bit_mask» ≤ 2047 * c .before .before .before .encoding-of .result .«hidden_bit_mask»)
+lifted c = let k = c .before .before .before in L.lifted-few (f (k .before)) _ (k .encoding-of .ensures) 0 _ (c .if4 .left)
 
 encoding-of-requires : tie.Need-encoding-of-requires
 encoding-of-requires c κs = search needs
@@ -28,10 +35,10 @@ returns-4 : tie.Need-returns-4
 returns-4 c = let k = c .before .before .before in L.lift-no (f (k .before)) _ (k .encoding-of .ensures) _ _ (c .before .if2 .left) (c .if4 .taken)
 
 mul-bits : tie.Need-mul-bits
-mul-bits c = let k = c .before .before .before in L.lifted-fits (f (k .before)) _ (k .encoding-of .ensures) 0 _ (c .if4 .left)
+mul-bits c = let few = lifted c in omega (arith, few .0, few .1)
 
 add-bits : tie.Need-add-bits
-add-bits c = let k = c .before .before .before in L.sum-fits (f (k .before)) _ (k .encoding-of .ensures) _ _ (c .if4 .left) (c .before .before .if1 .left)
+add-bits c = let few = lifted c in omega (arith, few .0, few .1, c .before .before .if1 .left)
 
 returns-5 : tie.Need-returns-5
 returns-5 c = let k = c .before .before .before .before in L.bits-yes (f (k .before)) _ (k .encoding-of .ensures) _ _ (c .before .before .if2 .left) (c .before .before .before .if1 .left) (c .if5 .taken)
