@@ -1,0 +1,221 @@
+#!/usr/bin/env python3
+"""Prints what the program `examples` must write, from document 01 and IEEE 754 and from nothing of this repository:
+
+    python3 crates/examples/expected.py | diff - crates/examples/stdout
+"""
+import math
+import struct
+from fractions import Fraction
+
+DIGITS = "0123456789ABCDEFGHIJKLMNOPQRSTUV"
+RADICES = (2, 4, 8, 10, 16, 32)
+
+
+# ---- integer digits
+
+def digits(value, radix):
+    text = ""
+    while True:
+        value, d = divmod(value, radix)
+        text = DIGITS[d] + text
+        if value == 0:
+            return text
+
+
+def digit_lines():
+    for value in (0, 1, 31, 32, 1023, 1024, 2**64 - 1):
+        for radix in RADICES:
+            yield f"{radix} {value} {digits(value, radix)}"
+    for value, radix in ((0, 2), (1024, 10), (255, 16), (1024, 32), (5, 0), (5, 3), (5, 64)):
+        for room in (6, 4, 3, 2, 1, 0):
+            lent = "." * room
+            if radix not in RADICES:
+                yield f"{radix} {value} refused 2 at 0 [{lent}]"
+            elif len(digits(value, radix)) > room:
+                yield f"{radix} {value} refused 8 at 0 [{lent}]"
+            else:
+                text = digits(value, radix)
+                yield f"{radix} {value} {text} [{text}{lent[len(text):]}]"
+
+
+# ---- floats: stored bits of the mantissa, bias, and how Python unpacks the bits
+
+WIDTHS = {"f64": (52, 1075, "<Q", "<d"), "f32": (23, 150, "<I", "<f")}
+
+
+def float_of(width, bits):
+    stored, bias, whole, kind = WIDTHS[width]
+    return struct.unpack(kind, struct.pack(whole, bits))[0]
+
+
+def bits_of(width, x):
+    stored, bias, whole, kind = WIDTHS[width]
+    return struct.unpack(whole, struct.pack(kind, x))[0]
+
+
+def made(width, negative, m, e):
+    """The bits of the float -m * 2^e or m * 2^e, if m and e fit the width."""
+    stored, bias, whole, kind = WIDTHS[width]
+    least = 1 - bias
+    if m > 2 ** (stored + 1) or e < least or (e > least and m < 2**stored):
+        return None
+    top = 2 ** {"f64": 1024, "f32": 128}[width]
+    if m != 0 and e > 2000 or Fraction(m) * Fraction(2) ** e >= top:
+        return None
+    x = math.ldexp(m, e)
+    assert Fraction(x) == Fraction(m) * Fraction(2) ** e
+    return bits_of(width, -x if negative else x)
+
+
+def made_line(width, negative, m, e):
+    bits = made(width, negative, m, e)
+    return f"{width} {'-' if negative else ''}{m} * 2^{e} is {'none' if bits is None else f'{bits:x}'}"
+
+
+def parts_line(width, bits):
+    stored, bias, whole, kind = WIDTHS[width]
+    x = float_of(width, bits)
+    if math.isnan(x) or math.isinf(x):
+        return f"{width} {bits:x}: special"
+    # the exponent by the value: that of the leading bit less the stored ones, and no less than the least
+    e = 1 - bias
+    if x != 0:
+        e = max(e, math.frexp(abs(x))[1] - 1 - stored)
+    m = Fraction(abs(x)) / Fraction(2) ** e
+    assert m.denominator == 1
+    s = math.frexp(abs(x))[1] - 1 if x != 0 else 0
+    negative = math.copysign(1, x) < 0
+    line = made_line(width, negative, int(m), e)
+    assert line.endswith(f" is {bits:x}")
+    return f"{width} {bits:x}: s {s}, {line}"
+
+
+F64 = (
+    0, 1, 0x000FFFFFFFFFFFFF, 0x0010000000000000, 0x3FF0000000000000, 0x3FF8000000000000, 0x400FFFFFFFFFFFFF, 0x7FEFFFFFFFFFFFFF,
+    0x7FF0000000000000, 0xFFF0000000000000, 0x7FF0000000000001, 0x7FF8000000000000, 0xFFFFFFFFFFFFFFFF,
+    0x8000000000000000, 0x8000000000000001, 0xBFF0000000000000, 0xFFEFFFFFFFFFFFFF,
+)
+F32 = (
+    0, 1, 0x007FFFFF, 0x00800000, 0x3F800000, 0x3FC00000, 0x407FFFFF, 0x7F7FFFFF,
+    0x7F800000, 0xFF800000, 0x7F800001, 0x7FC00000, 0xFFFFFFFF, 0x80000000, 0x80000001, 0xBF800000, 0xFF7FFFFF,
+)
+MADE = (
+    ("f64", 0, -1074), ("f64", 0, 0), ("f64", 1, -1075), ("f64", 2**52 - 1, -1073), ("f64", 2**52, -1073), ("f64", 2**53, -1074),
+    ("f64", 2**53 + 1, -1074), ("f64", 2**53, 970), ("f64", 2**53, 971), ("f64", 2**52, 972), ("f64", 2**52, 32767),
+    ("f64", 2**64 - 1, -32768),
+    ("f32", 0, -149), ("f32", 1, -150), ("f32", 2**23 - 1, -148), ("f32", 2**23, -148), ("f32", 2**24, -149), ("f32", 2**24 + 1, -149),
+    ("f32", 2**24, 103), ("f32", 2**24, 104), ("f32", 2**23, 105), ("f32", 2**23, 32767), ("f32", 2**52, -52),
+)
+
+
+def float_lines():
+    for bits in F64:
+        yield parts_line("f64", bits)
+    for bits in F32:
+        yield parts_line("f32", bits)
+    for width, m, e in MADE:
+        yield made_line(width, False, m, e)
+        yield made_line(width, True, m, e)
+
+
+# ---- the three exponents; a quotient by 0 is 0 below 0's floor, as the definition has it
+
+PAIRS = {
+    (2, 2): (1, 1), (4, 4): (2, 2), (8, 8): (3, 3), (16, 16): (4, 4), (32, 32): (5, 5),
+    (4, 2): (2, 1), (8, 2): (3, 1), (16, 2): (4, 1), (32, 2): (5, 1), (16, 4): (4, 2),
+}
+
+
+def scaled_line(s, b, c):
+    p = s // b if b != 0 else -1 if s < 0 else 0
+    power = abs(p) * b // c if c != 0 else 0
+    return f"s {s}, b {b}, c {c}: p {p}, {'-' if p < 0 else ''}{power}"
+
+
+def exponent_lines():
+    for s in (-1074, -5, -4, -1, 0, 4, 1023):
+        for b, c in PAIRS.values():
+            yield scaled_line(s, b, c)
+    for s, b, c in ((-(2**31), 1, 1), (-(2**31), 2**32 - 1, 1), (2**31 - 1, 0, 1), (-(2**31), 0, 1), (-1, 4, 0)):
+        yield scaled_line(s, b, c)
+    for value in (0, 1, 2**52 - 1, 2**52, 2**63 - 1, 2**64 - 1):
+        yield f"{value} has {value.bit_length()} bits"
+
+
+# ---- formats
+
+class Case:
+    radix, base, exponent_radix = 16, 2, 10
+    required = forbidden = False
+    least = most = low = high = 0
+    point, mark = ord("."), ord("^")
+
+    def __init__(self, **fields):
+        for name, value in fields.items():
+            setattr(self, name, value)
+
+    def bad_byte(self, x):
+        return not 33 <= x <= 126 or chr(x) in "+-" or chr(x) in DIGITS[: min(self.radix, 32)]
+
+    def reading(self):
+        if (self.radix, self.base) not in PAIRS:
+            return 1
+        if self.exponent_radix not in RADICES:
+            return 2
+        if self.bad_byte(self.point) or self.bad_byte(self.mark) or self.point == self.mark:
+            return 3
+        return None
+
+    def writing(self):
+        number = self.reading()
+        if number:
+            return number
+        if self.required and self.forbidden:
+            return 4
+        if self.least > 1200 or self.most > 1200 or (self.least and self.most and self.least > self.most):
+            return 5
+        if not -2000 <= (self.low or -5) <= -1 or not 1 <= (self.high or 9) <= 2000:
+            return 6
+        return None
+
+    def line(self, name):
+        def answer(number, passed):
+            return f"refused {number} at 0" if number else passed
+
+        b, c = PAIRS.get((self.radix, self.base), (0, 0))
+        bits = f"b {b} c {c}"
+        return f"{name}: write {answer(self.writing(), f'{bits} breaks {self.low or -5} {self.high or 9}')}, read {answer(self.reading(), bits)}"
+
+
+def format_lines():
+    for radix in (0, 2, 4, 8, 10, 16, 32, 64, 2**32 - 1):
+        for base in (0, 2, 4, 8, 10, 16, 32):
+            yield Case(radix=radix, base=base).line(f"pair {radix}/{base}")
+    for radix in (0, 1, 2, 3, 4, 8, 10, 16, 32, 36, 2**32 - 1):
+        yield Case(exponent_radix=radix).line(f"exponent radix {radix}")
+    for radix, point, mark in (
+        (16, 0, "^"), (16, ".", 0), (16, 255, "^"), (16, ".", 255), (16, 32, "^"), (16, 33, "^"), (16, ".", 126), (16, ".", 127),
+        (16, "^", "^"), (16, "+", "^"), (16, ".", "-"), (2, ".", "1"), (2, ".", "2"), (8, ".", "7"), (8, "8", "^"),
+        (16, ".", "F"), (16, ".", "G"), (16, ".", "e"), (32, ".", "V"), (32, "W", "p"),
+    ):
+        point, mark = (x if isinstance(x, int) else ord(x) for x in (point, mark))
+        yield Case(radix=radix, base=radix, point=point, mark=mark).line(f"radix {radix} point {point} mark {mark}")
+    for required, forbidden in ((0, 0), (1, 0), (0, 1), (1, 1)):
+        yield Case(required=required, forbidden=forbidden).line(f"required {required} forbidden {forbidden}")
+    big = 2**32 - 1
+    for least, most in ((1200, 0), (1201, 0), (0, 1200), (0, 1201), (1200, 1200), (5, 4), (5, 5), (1, 0), (big, big)):
+        yield Case(least=least, most=most).line(f"least {least} most {most}")
+    for low, high in ((-2001, 0), (-2000, 0), (-1, 0), (1, 0), (0, 1), (0, 2000), (0, 2001), (0, -1), (-6, 10), (-(2**31), 2**31 - 1)):
+        yield Case(low=low, high=high).line(f"low {low} high {high}")
+    case = Case()
+    for name, fields in (
+        ("6", {"high": -1}), ("5, 6", {"least": 1201}), ("4, 5, 6", {"required": True, "forbidden": True}), ("3, 4, 5, 6", {"mark": ord(".")}),
+        ("2, 3, 4, 5, 6", {"exponent_radix": 3}), ("1, 2, 3, 4, 5, 6", {"base": 3}),
+    ):
+        vars(case).update(fields)
+        yield case.line(name)
+
+
+for lines in (digit_lines, float_lines, exponent_lines, format_lines):
+    for line in lines():
+        print(line)

@@ -1,0 +1,18 @@
+-- `examples::floats::f32_of` meets its contract: the test leaves no NaN's bits. Assumes nothing.
+use borrow.Author.Needs.{needs}
+use lib.Ieee.{binary32}
+use Rattle.lexical_util.proofs.PartsLaws.{tested-bits}
+use Rattle.examples.proofs.floats.f32_of.Statement.{statement}
+use Rattle.examples.proofs.floats.f32_of.Tie as tie
+
+returns : tie.Need-returns
+returns c = search needs
+
+float-from-bits-result : tie.Need-float-from-bits-result
+float-from-bits-result c = tested-bits binary32 (c .before .args .bits) (c .if1 .left)
+
+returns-2 : tie.Need-returns-2
+returns-2 c = search needs
+
+pub f32-of-spec : {M : Type 1} → statement M
+f32-of-spec = tie.close (tie.spec returns float-from-bits-result returns-2)
