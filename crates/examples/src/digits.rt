@@ -48,7 +48,7 @@ fn each_room(value: u64, radix: u32) {
     room_line(value, radix, &mut [b'.'; 0]);
 }
 
-pub fn run() {
+pub(crate) fn run() {
     each_radix(0);
     each_radix(1);
     each_radix(31);

@@ -47,7 +47,7 @@ fn bits_line(value: u64) {
     print::text(b" bits\n");
 }
 
-pub fn run() {
+pub(crate) fn run() {
     each_pair(-1074);
     each_pair(-5);
     each_pair(-4);

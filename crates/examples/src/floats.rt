@@ -184,7 +184,7 @@ fn made_edges() {
     each_made(false, 0x0010_0000_0000_0000, -52);
 }
 
-pub fn run() {
+pub(crate) fn run() {
     f64_edges();
     f32_edges();
     made_edges();

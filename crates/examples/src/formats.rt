@@ -248,7 +248,7 @@ fn order() {
     answers(f, o);
 }
 
-pub fn run() {
+pub(crate) fn run() {
     pairs();
     exponent_radices();
     bytes();

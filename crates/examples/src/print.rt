@@ -3,30 +3,30 @@ use lexical_util::Refusal;
 use lexical_util::Written;
 use libc::STDOUT_FILENO;
 
-pub fn text(s: &[u8]) {
+pub(crate) fn text(s: &[u8]) {
     io::write_all(STDOUT_FILENO, s);
 }
 
-pub fn number(n: u64) {
+pub(crate) fn number(n: u64) {
     io::print_decimal(STDOUT_FILENO, n);
 }
 
-pub fn signed(n: i32) {
+pub(crate) fn signed(n: i32) {
     if n < 0 {
         text(b"-");
     }
     number(lexical_util::unsigned_abs(n) as u64);
 }
 
-pub fn short(n: i16) {
+pub(crate) fn short(n: i16) {
     signed(n as i32);
 }
 
-pub fn hex(n: u64) {
+pub(crate) fn hex(n: u64) {
     io::print_hex(STDOUT_FILENO, n, 1);
 }
 
-pub fn refusal(r: Refusal) {
+pub(crate) fn refusal(r: Refusal) {
     text(b"refused ");
     number(r.number as u64);
     text(b" at ");
@@ -40,7 +40,7 @@ fn first(out: &[u8], n: usize) {
 }
 
 // The text of an answer, or its refusal.
-pub fn answer(written: Written, out: &[u8]) {
+pub(crate) fn answer(written: Written, out: &[u8]) {
     match written {
         Written::Length(n) => first(out, n),
         Written::Refused(r) => refusal(r),

@@ -4,8 +4,9 @@ use mathlib.Core.List.{[]}
 use lib.Count.{trailingZeros}
 use lib.Ieee.{size, span, climb, odd, ofFields, ofBits, toBits}
 use Rattle.lexical_util.specs.Examples.{failing}
+use Rattle.lexical_util.specs.Parts.{partsOf}
 use Rattle.lexical_util.specs.PartsExamples.{parts}
 
 pub parts-hold : failing parts ≡ []
-unfolding failing parts ofBits toBits ofFields odd size span climb trailingZeros
+unfolding failing parts partsOf ofBits toBits ofFields odd size span climb trailingZeros
 parts-hold = refl

@@ -4,14 +4,7 @@ use mathlib.Core.Bool.{Bool, true, false, cond}
 use lib.Dec.{eqb}
 use lib.IntN.{ℤ, pos, negsuc, natAbs, _+ℤ_}
 use lib.Signed.{shrZ}
-use lib.Ieee.{Float, nan, inf, fin, Format, low, hid, ones, minus, size, toBits}
-
--- finite, and the sign bit clear: what refusal 7 lets through
-abbrev pub isPlain : Float → Bool
-isPlain nan = false
-isPlain (inf s) = false
-isPlain (fin true m e) = false
-isPlain (fin false m e) = true
+use lib.Ieee.{Float, Format, low, hid, ones, minus, size, toBits}
 
 -- the two fields of the bit pattern below the sign: 52 stored bits, or 23, and above them the biased exponent
 abbrev pub storedBits : Format → Float → ℕ
