@@ -1,4 +1,4 @@
-// Where the fields of a bit pattern stand at each width, and what they say: one body on u64, with the width beside it.
+// Derived from the constants, `mantissa` and `exponent` of lexical-util/src/num.rs, changed: one body on u64, with the width beside it instead of a trait.
 ghost use mathlib.Core.Path.{_≡_};
 ghost use Prim.Native.Nat.{_*_, _<_};
 ghost use lib.Ieee.{hid, ones, top, ofBits};
@@ -12,7 +12,7 @@ pub(crate) enum Width {
     Binary64,
 }
 
-// Where the fields of a bit pattern stand, and how its exponent is counted.
+// Where the fields of a bit pattern stand, and how its exponent is counted. The exponent's mask is also the infinity's bits.
 pub(crate) struct Encoding {
     pub mantissa_size: u32,
     pub hidden_bit_mask: u64,
