@@ -1,7 +1,7 @@
 // Floats at the edges of each width: their parts, and the float made of these again.
 use crate::print;
-use lexical_util::FromF32;
-use lexical_util::FromF64;
+use lexical_util::MadeF32;
+use lexical_util::MadeF64;
 use lexical_util::Magnitude;
 use lexical_util::Parts;
 use lexical_util::f32_from_parts;
@@ -37,17 +37,17 @@ fn bits_of_f32(x: f32) -> u32 {
     f32::to_bits(x)
 }
 
-fn print_f64(made: FromF64) {
+fn print_f64(made: MadeF64) {
     match made {
-        FromF64::NoFloat => print::text(b"none"),
-        FromF64::Float(x) => print::hex(bits_of_f64(x)),
+        MadeF64::NoFloat => print::text(b"none"),
+        MadeF64::Float(x) => print::hex(bits_of_f64(x)),
     }
 }
 
-fn print_f32(made: FromF32) {
+fn print_f32(made: MadeF32) {
     match made {
-        FromF32::NoFloat => print::text(b"none"),
-        FromF32::Float(x) => print::hex(bits_of_f32(x) as u64),
+        MadeF32::NoFloat => print::text(b"none"),
+        MadeF32::Float(x) => print::hex(bits_of_f32(x) as u64),
     }
 }
 

@@ -2,20 +2,22 @@
 use Prim.Native.Nat.{ℕ, zero, suc, _+_, _-_, _*_, _/_, _^_, _≤_, _<_}
 use mathlib.Core.Path.{_≡_, refl, sym, ap, _∙_}
 use mathlib.Core.Bool.{true, false}
-use native.Mathlib.Nat.{zero-mul, suc-mul, mul-le-mul, mul-div-le, lt-mul-div-succ, div-zero, div-mul-le-self, lt-div-mul-add, div-eq-of-lt-le, div-lt-iff-lt-mul, div-mul-cancel, dvd-mul-left, dvd-mul-left-of-dvd, lt-of-le-of-lt}
+use native.Mathlib.Nat.{zero-mul, one-mul, mul-one, mul-comm, mul-le-mul-right, mul-lt-mul-of-pos-right, suc-mul, mul-le-mul, mul-div-le, lt-mul-div-succ, div-zero, div-mul-le-self, lt-div-mul-add, div-eq-of-lt-le, div-lt-iff-lt-mul, div-mul-cancel, dvd-mul-left, dvd-mul-left-of-dvd, lt-of-le-of-lt}
 use native.Mathlib.Numerals.{add-one}
 use native.Mathlib.Omega.{arith}
 use borrow.Author.Tests.{ltb-true, lt-ltb, le-ltb}
 use lib.Dec.{T, le→leb, lt→ltb}
-use lib.IntN.{ℤ, pos, negsuc, negℤ, natAbs, _+ℤ_, _-ℤ_, _*ℤ_}
+use lib.IntN.{ℤ, pos, negsuc, negℤ, natAbs, _+ℤ_, _-ℤ_, _*ℤ_, +ℤ-assoc}
 use lib.Signed.{mag, ltZ, nonNeg, mag-shr, _≤ℤ_, _<ℤ_, leZ-yes, ltZ-yes}
 use lib.Count.{leadingZeros}
-use lib.Ieee.{size}
+use lib.Ieee.{size, up, down}
+use lib.Ieee.Fits.{up-pos, down-pos}
+use lib.Pow.{pow-add}
 use lib.Ieee.Digits.{size-lt, size-le, size-reaches}
 use mir.Syntax.{w16, w32, w64}
 use mir.Val.{Fits, SFits, toZ, ofZ}
 use mir.Facts.{toZ-ofZ, toZ-pos}
-use Rattle.lexical_util.specs.Num.{scale, place, isNegative, power}
+use Rattle.lexical_util.specs.Num.{scale, LeadingBit, place, isNegative, power}
 use Rattle.lexical_util.proofs.DifferenceLaws.{by-larger, widened}
 use Rattle.lexical_util.proofs.PowerLaws.{size-zero, size-some, leading-size}
 
@@ -33,6 +35,32 @@ scale-zero (suc m) e h = absurd (omega (arith, size-some (suc m) (omega arith)))
 pub scale-some : (m : ℕ) (e : ℤ) → (size m ≡ 0 → ⊥) → e +ℤ pos (size m - 1) ≡ scale m e
 scale-some zero e h = absurd (h size-zero)
 scale-some (suc m) e h = refl
+
+-- 2 ^ (z + n) is 2 ^ n * 2 ^ z
+raised : (z : ℤ) (n : ℕ) → up (z +ℤ pos n) * down z ≡ 2 ^ n * up z * down (z +ℤ pos n)
+raised (pos k) n = ap (λ (x : ℕ). x * 1) (pow-add 2 k n ∙ mul-comm (2 ^ k) (2 ^ n))
+raised (negsuc k) n =
+    by-larger n (suc k) (up (negsuc k +ℤ pos n) * down (negsuc k) ≡ 2 ^ n * up (negsuc k) * down (negsuc k +ℤ pos n))
+    (λ h.
+    let e : n - suc k + suc k ≡ n = omega arith in
+    rw (le-ltb n (suc k) h, mul-one (2 ^ n), mul-one (2 ^ n), ← pow-add 2 (n - suc k) (suc k), e))
+    (λ h.
+    let e : n + suc (suc k - suc n) ≡ suc k = omega arith in
+    rw (lt-ltb n (suc k) h, mul-one (2 ^ n), ← pow-add 2 n (suc (suc k - suc n)), e, one-mul (2 ^ suc k)))
+
+pub leading-bit : (m : ℕ) (e s : ℤ) → s ≡ scale m e → 0 < m → LeadingBit m e s
+leading-bit zero e s is h = absurd (omega arith)
+leading-bit (suc m) e s is h =
+    let n : ℕ = size (suc m) - 1 in
+    let p = size-some (suc m) h in
+    let more : suc n ≡ size (suc m) = omega arith in
+    let next : s +ℤ pos 1 ≡ e +ℤ pos (suc n) = ap (λ (z : ℤ). z +ℤ pos 1) is ∙ +ℤ-assoc e (pos n) (pos 1) ∙ ap (λ (k : ℕ). e +ℤ pos k) (add-one n) in
+    record {
+      from = rw (is, raised e n) (mul-le-mul-right (down (e +ℤ pos n)) (mul-le-mul-right (up e) (size-reaches (suc m) n (omega arith))));
+      below =
+          rw (next, raised e (suc n))
+          (mul-lt-mul-of-pos-right (mul-lt-mul-of-pos-right (rw more (size-lt (suc m))) (up-pos e)) (down-pos (e +ℤ pos (suc n))));
+    }
 
 -- an exponent of 16 bits and a count of bits
 sum-fits : (e : ℤ) (n : ℕ) → SFits w16 e → n < 64 → SFits w32 (e +ℤ pos n)

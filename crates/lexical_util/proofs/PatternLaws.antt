@@ -17,6 +17,7 @@ use lib.Ieee.Bits.{ofBits-toBits, toBits-lt, ofBits-fits, nanBits-is}
 use lib.Ieee.Digits.{minus-val}
 use lib.Ieee.Exact.{HasValue}
 use lib.Ieee.Fits.{two, reach, down-pos}
+use lib.Ieee.Scale.{overflow}
 use Rattle.lexical_util.specs.declared.num.Magnitude.{Magnitude}
 use Rattle.lexical_util.specs.Encoding.{bitsOf}
 use Rattle.lexical_util.specs.Pattern.{BitsOf, PatternOf}
@@ -25,10 +26,6 @@ use Rattle.lexical_util.specs.Claims.{PartsComeBack}
 use Rattle.lexical_util.proofs.DifferenceLaws.{by-larger, minus-le, lt-not-le}
 use Rattle.lexical_util.proofs.FloatLaws.{round-of-value}
 use Rattle.lexical_util.proofs.PartsLaws.{below, finite-below, mantissaBits, exponentBits, units-value, value-shift, value-no-nan, lifted, bits-value, magnitude-bits, special-bits, special-value, split-bits}
-
--- from 2 ^ (emax + 1) on, in least values
-abbrev pub over : Format → ℕ
-over f = 2 ^ (low f + suc (emax f))
 
 twice : (f : Format) → 2 ^ prec f ≡ 2 * hid f
 twice binary32 = refl
@@ -61,20 +58,20 @@ more-bits f k =
 -- ---- which m and k fit, by the code's tests
 -- m * 2 ^ (k - low) against 2 ^ (emax + 1), and both in least values
 in-least : (f : Format) (m k : ℕ) → (m * up (minus k (low f)) * 2 ^ low f ≡ m * 2 ^ k * down (minus k (low f)))
-    × (2 ^ suc (emax f) * down (minus k (low f)) * 2 ^ low f ≡ over f * down (minus k (low f)))
+    × (2 ^ suc (emax f) * down (minus k (low f)) * 2 ^ low f ≡ overflow f * down (minus k (low f)))
 in-least f m k = (
   minus-val m k (low f),
   mul-right-comm (2 ^ suc (emax f)) (down (minus k (low f))) (2 ^ low f)
       ∙ ap (λ (x : ℕ). x * down (minus k (low f))) (mul-comm (2 ^ suc (emax f)) (2 ^ low f) ∙ sym (pow-add 2 (low f) (suc (emax f)))),
 )
 
-below-over : (f : Format) (m k : ℕ) → m * 2 ^ k < over f → m * up (minus k (low f)) < 2 ^ suc (emax f) * down (minus k (low f))
-below-over f m k h =
+below-overflow : (f : Format) (m k : ℕ) → m * 2 ^ k < overflow f → m * up (minus k (low f)) < 2 ^ suc (emax f) * down (minus k (low f))
+below-overflow f m k h =
     let w = in-least f m k in
     lt-of-mul-lt-mul-right (2 ^ low f) (rw (w .0, w .1) (mul-lt-mul-of-pos-right h (down-pos (minus k (low f)))))
 
-from-over : (f : Format) (m k : ℕ) → over f ≤ m * 2 ^ k → 2 ^ suc (emax f) * down (minus k (low f)) ≤ m * up (minus k (low f))
-from-over f m k h =
+from-overflow : (f : Format) (m k : ℕ) → overflow f ≤ m * 2 ^ k → 2 ^ suc (emax f) * down (minus k (low f)) ≤ m * up (minus k (low f))
+from-overflow f m k h =
     let w = in-least f m k in
     le-of-mul-le-mul-right (rw (w .0, w .1) (mul-le-mul-right (down (minus k (low f))) h)) (pow-pos (low f))
 
@@ -93,8 +90,8 @@ or-true true = refl
 or-true false = refl
 
 module _ (f : Format) (m k : ℕ) where
-  pub fits-yes : m ≤ 2 * hid f → (leb k 0 || leb (hid f) m) ≡ true → m * 2 ^ k < over f → fitting f m (minus k (low f)) ≡ true
-  fits-yes h l o = fitting-is f m k ∙ rw (le-leb m (2 ^ prec f) (omega (arith, twice f)), l, lt-ltb _ _ (below-over f m k o))
+  pub fits-yes : m ≤ 2 * hid f → (leb k 0 || leb (hid f) m) ≡ true → m * 2 ^ k < overflow f → fitting f m (minus k (low f)) ≡ true
+  fits-yes h l o = fitting-is f m k ∙ rw (le-leb m (2 ^ prec f) (omega (arith, twice f)), l, lt-ltb _ _ (below-overflow f m k o))
 
   pub too-long : 2 * hid f < m → fitting f m (minus k (low f)) ≡ false
   too-long h = fitting-is f m k ∙ rw (lt-leb m (2 ^ prec f) (omega (arith, twice f)))
@@ -102,8 +99,8 @@ module _ (f : Format) (m k : ℕ) where
   pub no-lead : m < hid f → (k ≡ 0 → ⊥) → fitting f m (minus k (low f)) ≡ false
   no-lead h l = fitting-is f m k ∙ rw (lt-leb (hid f) m h, lt-leb k 0 (pos-of-ne-zero l), and-false (leb m (2 ^ prec f)))
 
-  pub too-large : over f ≤ m * 2 ^ k → fitting f m (minus k (low f)) ≡ false
-  too-large o = fitting-is f m k ∙ rw (le-ltb _ _ (from-over f m k o), and-false (leb k 0 || leb (hid f) m), and-false (leb m (2 ^ prec f)))
+  pub too-large : overflow f ≤ m * 2 ^ k → fitting f m (minus k (low f)) ≡ false
+  too-large o = fitting-is f m k ∙ rw (le-ltb _ _ (from-overflow f m k o), and-false (leb k 0 || leb (hid f) m), and-false (leb m (2 ^ prec f)))
 
 -- below the least exponent
 pub too-low : (f : Format) (m : ℕ) (e : ℤ) → ltZ e (minus 0 (low f)) ≡ true → fitting f m e ≡ false
@@ -111,20 +108,20 @@ unfolding fitting
 too-low f m e h = rw (lt-not-le e (minus 0 (low f)) h, and-false (leb m (2 ^ prec f)))
 
 -- ---- where the sum k * hid + m passes the infinity's bits
-over-at : (f : Format) → over f ≡ hid f * 2 ^ (2 * emax f)
-over-at f = ap (λ (x : ℕ). 2 ^ x) (let z : low f + suc (emax f) ≡ prec f - 1 + 2 * emax f = omega (arith, two f) in z) ∙ pow-add 2 (prec f - 1) (2 * emax f)
+overflow-at : (f : Format) → overflow f ≡ hid f * 2 ^ (2 * emax f)
+overflow-at f = ap (λ (x : ℕ). 2 ^ x) (let z : low f + suc (emax f) ≡ prec f - 1 + 2 * emax f = omega (arith, two f) in z) ∙ pow-add 2 (prec f - 1) (2 * emax f)
 
-pub past : (f : Format) (m k : ℕ) → hid f ≤ m → 2 * emax f ≤ k → over f ≤ m * 2 ^ k
-past f m k h l = le-trans (le-of-eq (over-at f)) (le-trans (mul-le-mul-right (2 ^ (2 * emax f)) h) (mul-le-mul-left m (pow-mono l)))
+pub past : (f : Format) (m k : ℕ) → hid f ≤ m → 2 * emax f ≤ k → overflow f ≤ m * 2 ^ k
+past f m k h l = le-trans (le-of-eq (overflow-at f)) (le-trans (mul-le-mul-right (2 ^ (2 * emax f)) h) (mul-le-mul-left m (pow-mono l)))
 
-under : (f : Format) (m k : ℕ) → m < 2 * hid f → k < 2 * emax f → m * 2 ^ k < over f
+under : (f : Format) (m k : ℕ) → m < 2 * hid f → k < 2 * emax f → m * 2 ^ k < overflow f
 under f m k h l = lt-of-lt-of-le (shl-lt (prec f) k (rw (twice f) h)) (pow-mono (omega (arith, two f)))
 
 -- ---- a mantissa with its leading bit, and the one that is a bit too long
 record Sum (f : Format) (m k : ℕ) : Type 0 where
   is : mantissaBits f (k * hid f + m) * 2 ^ ((k * hid f + m) / hid f - 1) ≡ m * 2 ^ k
-  inside : k * hid f + m < ones f * hid f → m * 2 ^ k < over f
-  outside : ones f * hid f ≤ k * hid f + m → over f ≤ m * 2 ^ k
+  inside : k * hid f + m < ones f * hid f → m * 2 ^ k < overflow f
+  outside : ones f * hid f ≤ k * hid f + m → overflow f ≤ m * 2 ^ k
 
 summed : (f : Format) (m k : ℕ) → hid f ≤ m → m ≤ 2 * hid f → Sum f m k
 summed f m k lo hi = go (eq-or-lt-of-le hi)

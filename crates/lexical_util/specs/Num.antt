@@ -1,10 +1,10 @@
 -- A float's parts: document 01, "Float parts" and the s of "Layout". Both widths by the format. Definitions only.
-use Prim.Native.Nat.{ℕ, zero, suc, _+_, _-_, _*_, _/_, _%_}
+use Prim.Native.Nat.{ℕ, zero, suc, _+_, _-_, _*_, _/_, _%_, _≤_, _<_}
 use mathlib.Core.Bool.{Bool, true, false, cond}
 use lib.Dec.{eqb}
 use lib.IntN.{ℤ, pos, negsuc, natAbs, _+ℤ_}
 use lib.Signed.{shrZ}
-use lib.Ieee.{Float, Format, low, hid, ones, minus, size, toBits}
+use lib.Ieee.{Float, Format, low, hid, ones, up, down, minus, size, toBits}
 
 -- the two fields of the bit pattern below the sign: 52 stored bits, or 23, and above them the biased exponent
 abbrev pub storedBits : Format → Float → ℕ
@@ -30,6 +30,11 @@ significantBits m = size m
 abbrev pub scale : ℕ → ℤ → ℤ
 scale zero e = pos 0
 scale (suc m) e = e +ℤ pos (significantBits (suc m) - 1)
+
+-- what s says of the value: it lies from 2 ^ s up to 2 ^ (s + 1). Both sides are multiplied to whole numbers; 2 ^ e is the fraction `up e / down e`.
+pub record LeadingBit (m : ℕ) (e s : ℤ) : Type 0 where
+  pub from : up s * down e ≤ m * up e * down s
+  pub below : m * up e * down (s +ℤ pos 1) < up (s +ℤ pos 1) * down e
 
 -- p, in digits of b bits: floor (s / b), toward minus infinity
 abbrev pub place : ℕ → ℤ → ℤ

@@ -11,10 +11,10 @@ use lib.Ieee.Scale.{finite}
 use Rattle.lexical_util.specs.declared.num.Magnitude.{Magnitude}
 use Rattle.lexical_util.specs.declared.num.Parts.{Parts}
 use Rattle.lexical_util.specs.declared.num.Parts.the-variants.{Plain, Negative, Special}
-use Rattle.lexical_util.specs.declared.num.FromF64.{FromF64}
-use Rattle.lexical_util.specs.declared.num.FromF64.the-variants.{Float as Float64, NoFloat as NoFloat64}
-use Rattle.lexical_util.specs.declared.num.FromF32.{FromF32}
-use Rattle.lexical_util.specs.declared.num.FromF32.the-variants.{Float as Float32, NoFloat as NoFloat32}
+use Rattle.lexical_util.specs.declared.num.MadeF64.{MadeF64}
+use Rattle.lexical_util.specs.declared.num.MadeF64.the-variants.{Float as Float64, NoFloat as NoFloat64}
+use Rattle.lexical_util.specs.declared.num.MadeF32.{MadeF32}
+use Rattle.lexical_util.specs.declared.num.MadeF32.the-variants.{Float as Float32, NoFloat as NoFloat32}
 use Rattle.lexical_util.specs.Num.{mantissa, exponent}
 
 abbrev pub magnitudeOf : Format → Float → Magnitude
@@ -45,13 +45,13 @@ unfoldable pub floatFrom : Format → Bool → Magnitude → Option Float
 floatFrom f s v = cond (fitting f (v .mantissa) (v .exponent)) (some (round f s (v .mantissa * up (v .exponent)) (down (v .exponent)))) none
 
 -- the cases of the answers
-abbrev pub ofFromF64 : FromF64 → Option Float
-ofFromF64 (Float64 x) = some x
-ofFromF64 NoFloat64 = none
+abbrev pub ofMadeF64 : MadeF64 → Option Float
+ofMadeF64 (Float64 x) = some x
+ofMadeF64 NoFloat64 = none
 
-abbrev pub ofFromF32 : FromF32 → Option Float
-ofFromF32 (Float32 x) = some x
-ofFromF32 NoFloat32 = none
+abbrev pub ofMadeF32 : MadeF32 → Option Float
+ofMadeF32 (Float32 x) = some x
+ofMadeF32 NoFloat32 = none
 
 -- the float answered has that value exactly
 abbrev pub IsExact : Bool → Magnitude → Option Float → Type 0

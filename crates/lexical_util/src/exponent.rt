@@ -4,7 +4,7 @@ ghost use mathlib.Core.Path.{_≡_};
 ghost use Prim.Native.Nat.{_+_, _-_, _*_, _/_, _^_, _≤_, _<_};
 ghost use lib.IntN.{pos, natAbs, _+ℤ_, _*ℤ_};
 ghost use lib.Signed.{_≤ℤ_, _<ℤ_};
-ghost use Rattle.lexical_util.specs.Num.{significantBits, scale, place, isNegative, power};
+ghost use Rattle.lexical_util.specs.Num.{significantBits, scale, LeadingBit, place, isNegative, power};
 use crate::num::Magnitude;
 
 // In bits: s, or any exponent of two.
@@ -27,6 +27,7 @@ pub fn significant_bits(value: u64) -> u32
 // s: the exponent of the value's leading bit, and 0 for zero.
 pub fn sci_exp(value: Magnitude) -> BitExponent
     ensures { λ r. ⌜ r .0 ≡ scale (value .mantissa) (value .exponent) ⌝ }
+    ensures leading { λ r. ⌜ (0 < value .mantissa → LeadingBit (value .mantissa) (value .exponent) (r .0)) ⌝ }
 {
     let bits = significant_bits(value.mantissa);
     if bits == 0 {

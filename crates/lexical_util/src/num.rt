@@ -1,7 +1,7 @@
 // Derived from lexical-util/src/num.rs, changed: one body on u64 with the width beside it instead of a trait, and sign, infinities and NaN as cases of one answer.
 ghost use mathlib.Core.Path.{_≡_};
 ghost use lib.Ieee.{Float, binary32, binary64};
-ghost use Rattle.lexical_util.specs.Parts.{partsOf, IsValue, floatFrom, ofFromF64, ofFromF32, IsExact};
+ghost use Rattle.lexical_util.specs.Parts.{partsOf, IsValue, floatFrom, ofMadeF64, ofMadeF32, IsExact};
 use crate::encoding::Width;
 use crate::encoding::parts_of_bits;
 use crate::pattern::Pattern;
@@ -23,13 +23,13 @@ pub enum Parts {
     Special,
 }
 
-// The float of a sign, a mantissa and an exponent, if these fit.
-pub enum FromF64 {
+// The float made of a sign, a mantissa and an exponent, if these fit.
+pub enum MadeF64 {
     Float(f64),
     NoFloat,
 }
 
-pub enum FromF32 {
+pub enum MadeF32 {
     Float(f32),
     NoFloat,
 }
@@ -56,24 +56,24 @@ pub fn parts_f32(x: f32) -> Parts
 }
 
 // The float with this sign and this magnitude, where mantissa and exponent fit it.
-pub fn f64_from_parts(negative: bool, value: Magnitude) -> FromF64
-    ensures { λ r. ⌜ ofFromF64 r ≡ floatFrom binary64 negative value ⌝ }
-    ensures value { λ r. ⌜ IsExact negative value (ofFromF64 r) ⌝ }
+pub fn f64_from_parts(negative: bool, value: Magnitude) -> MadeF64
+    ensures { λ r. ⌜ ofMadeF64 r ≡ floatFrom binary64 negative value ⌝ }
+    ensures value { λ r. ⌜ IsExact negative value (ofMadeF64 r) ⌝ }
 {
     let pattern = bits_of_parts(negative, value, Width::Binary64);
     match pattern {
-        Pattern::NoFloat => FromF64::NoFloat,
-        Pattern::Bits(bits) => FromF64::Float(f64::from_bits(bits)),
+        Pattern::NoFloat => MadeF64::NoFloat,
+        Pattern::Bits(bits) => MadeF64::Float(f64::from_bits(bits)),
     }
 }
 
-pub fn f32_from_parts(negative: bool, value: Magnitude) -> FromF32
-    ensures { λ r. ⌜ ofFromF32 r ≡ floatFrom binary32 negative value ⌝ }
-    ensures value { λ r. ⌜ IsExact negative value (ofFromF32 r) ⌝ }
+pub fn f32_from_parts(negative: bool, value: Magnitude) -> MadeF32
+    ensures { λ r. ⌜ ofMadeF32 r ≡ floatFrom binary32 negative value ⌝ }
+    ensures value { λ r. ⌜ IsExact negative value (ofMadeF32 r) ⌝ }
 {
     let pattern = bits_of_parts(negative, value, Width::Binary32);
     match pattern {
-        Pattern::NoFloat => FromF32::NoFloat,
-        Pattern::Bits(bits) => FromF32::Float(f32::from_bits(bits as u32)),
+        Pattern::NoFloat => MadeF32::NoFloat,
+        Pattern::Bits(bits) => MadeF32::Float(f32::from_bits(bits as u32)),
     }
 }
