@@ -2,7 +2,7 @@
 use Prim.Native.Nat.{ℕ, suc, _+_, _-_, _*_, _/_, _%_, _^_, _≤_, _<_}
 use mathlib.Core.Path.{_≡_, sym, ap, _∙_}
 use mathlib.Core.Bool.{Bool, true, false}
-use native.Mathlib.Nat.{mod-lt, mul-le-mul-right}
+use native.Mathlib.Nat.{mod-lt, mod-eq-of-lt, add-mod-left, mul-pos, mul-le-mul-right, zero-lt-suc}
 use native.Mathlib.Omega.{arith}
 use borrow.Author.Tests.{eq-eqb, ne-eqb}
 use lib.Bits.{bitAnd, and-mask}
@@ -20,9 +20,9 @@ use Rattle.lexical_util.specs.declared.num.Parts.the-variants.{Plain, Ne
 use Rattle.lexical_util.specs.Encoding.{encodingOf, bitsOf}
 use Rattle.lexical_util.specs.Pattern.{BitsOf, IsBits}
 use Rattle.lexical_util.specs.Parts.{magnitudeOf, partsOf, fitting}
-use Rattle.lexical_util.proofs.DifferenceLaws.{minus-fits, minus-add, difference-fits, difference-is}
+use Rattle.lexical_util.proofs.DifferenceLaws.{by-larger, minus-fits, minus-add, difference-fits, difference-is}
 use Rattle.lexical_util.proofs.PatternLaws.{few-is, too-long, no-lead, too-large, too-low, past, sum-is, sum-over}
-use Rattle.lexical_util.proofs.PartsLaws.{finite-below, magnitude-bits, parts-bits, special-bits}
+use Rattle.lexical_util.proofs.PartsLaws.{signed, finite-below, magnitude-bits, parts-bits, special-bits}
 
 -- what is known of the two widths' numbers
 pub record Small (f : Format) : Type 0 where
@@ -73,27 +73,56 @@ module _ (f : Format) (E : Encoding) (is : E ≡ encodingOf f) (bits : ℕ) (h :
       rw masked (rw (is, e) (sym (magnitude-bits f false bits h ∙ rw (ne-eqb (bits / hid f) 0 q))))
 
 -- ---- and the code's tests tell the three cases apart
+sign-masked : (f : Format) (bits : ℕ) → bitAnd bits (top f - 1) ≡ bits % top f
+sign-masked binary32 bits = and-mask bits 31
+sign-masked binary64 bits = and-mask bits 63
+
 module _ (f : Format) (E : Encoding) (is : E ≡ encodingOf f) where
-  pub infinity : E .«exponent_mask» ≡ ones f * hid f
+  infinity : E .«exponent_mask» ≡ ones f * hid f
   infinity = ap (λ (E : Encoding). E .«exponent_mask») is
 
   sign : E .«sign_mask» ≡ top f
   sign = ap (λ (E : Encoding). E .«sign_mask») is
 
-  pub plain-is : (bits : ℕ) (v : Magnitude) → bits < E .«exponent_mask» → v ≡ magnitudeOf f (ofBits f bits) → Plain v ≡ partsOf f (ofBits f bits)
-  plain-is bits v h e = sym (parts-bits f false bits (rw infinity at h) ∙ ap Plain (sym e))
+  pub sign-some : 1 ≤ E .«sign_mask»
+  sign-some = rw sign (mul-pos (pow-pos (prec f - 1)) (zero-lt-suc (ones f)))
 
-  from-sign : (bits : ℕ) → E .«sign_mask» ≤ bits → partsOf f (ofBits f bits) ≡ partsOf f (ofBits f (bitsOf f true (bits - E .«sign_mask»)))
-  from-sign bits l = ap (λ (b : ℕ). partsOf f (ofBits f b)) (omega (arith, sign))
+  module _ (bits : ℕ) where
+    -- the bits below the sign
+    abbrev pub below-sign : ℕ
+    below-sign = bitAnd bits (E .«sign_mask» - 1)
 
-  pub negative-is : (bits : ℕ) (v : Magnitude) → E .«sign_mask» ≤ bits → bits - E .«sign_mask» < E .«exponent_mask» → v ≡ magnitudeOf f (ofBits f (bits - E .«sign_mask»)) → Negative v ≡ partsOf f (ofBits f bits)
-  negative-is bits v l h e = sym (from-sign bits l ∙ parts-bits f true (bits - E .«sign_mask») (rw infinity at h) ∙ ap Negative (sym e))
+    rest : below-sign ≡ bits % top f
+    rest = ap (λ (x : ℕ). bitAnd bits (x - 1)) sign ∙ sign-masked f bits
 
-  pub special-plain : (bits : ℕ) → E .«exponent_mask» ≤ bits → bits < E .«sign_mask» → Special ≡ partsOf f (ofBits f bits)
-  special-plain bits l h = sym (special-bits f false bits (rw infinity at l) (rw sign at h))
+    pub finite-rest : below-sign < E .«exponent_mask» → below-sign < ones f * hid f
+    finite-rest h = rw infinity at h
 
-  pub special-negative : (bits : ℕ) → E .«sign_mask» ≤ bits → E .«exponent_mask» ≤ bits - E .«sign_mask» → bits < 2 * top f → Special ≡ partsOf f (ofBits f bits)
-  special-negative bits l h few = sym (from-sign bits l ∙ special-bits f true (bits - E .«sign_mask») (rw infinity at h) (omega (arith, sign)))
+    clear : bits < E .«sign_mask» → bits ≡ bitsOf f false below-sign
+    clear h = sym (rest ∙ mod-eq-of-lt (rw sign at h))
+
+    set : E .«sign_mask» ≤ bits → bits < 2 * top f → bits ≡ bitsOf f true below-sign
+    set l few =
+        let m : bits % top f ≡ bits - top f = ap (λ (x : ℕ). x % top f) (let z : bits ≡ top f + (bits - top f) = omega (arith, sign) in z) ∙ add-mod-left (top f) (bits - top f) ∙ mod-eq-of-lt (omega (arith, sign)) in
+        omega (arith, sign, rest)
+
+    parts-at : (s : Bool) → bits ≡ bitsOf f s below-sign → below-sign < E .«exponent_mask» → (v : Magnitude) → v ≡ magnitudeOf f (ofBits f below-sign) → signed s v ≡ partsOf f (ofBits f bits)
+    parts-at s b h v e = sym (ap (λ (x : ℕ). partsOf f (ofBits f x)) b ∙ parts-bits f s below-sign (finite-rest h) ∙ ap (signed s) (sym e))
+
+    pub plain-is : bits < E .«sign_mask» → below-sign < E .«exponent_mask» → (v : Magnitude) → v ≡ magnitudeOf f (ofBits f below-sign) → Plain v ≡ partsOf f (ofBits f bits)
+    plain-is l = parts-at false (clear l)
+
+    pub negative-is : E .«sign_mask» ≤ bits → bits < 2 * top f → below-sign < E .«exponent_mask» → (v : Magnitude) → v ≡ magnitudeOf f (ofBits f below-sign) → Negative v ≡ partsOf f (ofBits f bits)
+    negative-is l few = parts-at true (set l few)
+
+    special-at : (s : Bool) → bits ≡ bitsOf f s below-sign → E .«exponent_mask» ≤ below-sign → Special ≡ partsOf f (ofBits f bits)
+    special-at s b h =
+        let few : below-sign < top f = rw rest (mod-lt bits (rw sign at sign-some)) in
+        sym (ap (λ (x : ℕ). partsOf f (ofBits f x)) b ∙ special-bits f s below-sign (rw infinity at h) few)
+
+    pub special-is : bits < 2 * top f → E .«exponent_mask» ≤ below-sign → Special ≡ partsOf f (ofBits f bits)
+    special-is few h =
+        by-larger bits (E .«sign_mask») (Special ≡ partsOf f (ofBits f bits)) (λ l. special-at true (set l few) h) (λ l. special-at false (clear l) h)
 
 -- ---- the way back: the code's tests tell which m and k fit
 module _ (f : Format) (E : Encoding) (is : E ≡ encodingOf f) (m k : ℕ) where

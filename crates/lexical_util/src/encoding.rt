@@ -72,17 +72,14 @@ pub(crate) fn parts_of_bits(bits: u64, width: Width) -> Parts
     ensures { λ r. ⌜ r ≡ partsOf (formatOf width) (ofBits (formatOf width) bits) ⌝ }
 {
     let encoding = encoding_of(width);
-    let infinity = encoding.exponent_mask;
     let sign = encoding.sign_mask;
-    if bits < infinity {
-        return Parts::Plain(magnitude_of_bits(bits, width));
-    }
-    if bits < sign {
+    let below = bits & (sign - 1);
+    if below >= encoding.exponent_mask {
         return Parts::Special;
     }
-    let below = bits - sign;
-    if below < infinity {
-        return Parts::Negative(magnitude_of_bits(below, width));
+    let value = magnitude_of_bits(below, width);
+    if bits < sign {
+        return Parts::Plain(value);
     }
-    Parts::Special
+    Parts::Negative(value)
 }

@@ -12,36 +12,34 @@ f c = formatOf (c .args .width)
 encoding-of-requires : tie.Need-encoding-of-requires
 encoding-of-requires c κs = search needs
 
-magnitude-of-bits-requires : tie.Need-magnitude-of-bits-requires
-magnitude-of-bits-requires c κs = rw (L.infinity (f (c .before .before)) _ (c .before .encoding-of .ensures)) at (c .if1 .taken)
+sub-below : tie.Need-sub-below
+sub-below c = L.sign-some (f (c .before)) _ (c .encoding-of .ensures)
 
 returns : tie.Need-returns
-returns c = let k = c .before .before in L.plain-is (f (k .before)) _ (k .encoding-of .ensures) _ _ (c .before .if1 .taken) (c .magnitude-of-bits .ensures)
+returns c = let k = c .before .before in L.special-is (f (k .before)) _ (k .encoding-of .ensures) _ (k .before .pre) (c .if1 .taken)
+
+magnitude-of-bits-requires : tie.Need-magnitude-of-bits-requires
+magnitude-of-bits-requires c κs = let k = c .before .before in L.finite-rest (f (k .before)) _ (k .encoding-of .ensures) (k .before .args .bits) (c .if1 .left)
 
 returns-2 : tie.Need-returns-2
-returns-2 c = let k = c .before .before in L.special-plain (f (k .before)) _ (k .encoding-of .ensures) _ (c .before .if1 .left) (c .if2 .taken)
-
-magnitude-of-bits-requires-2 : tie.Need-magnitude-of-bits-requires-2
-magnitude-of-bits-requires-2 c κs = let k = c .before .before .before in rw (L.infinity (f (k .before)) _ (k .encoding-of .ensures)) at (c .if3 .taken)
+returns-2 c =
+    let v = c .before in
+    let k = v .before .before .before in
+    L.plain-is (f (k .before)) _ (k .encoding-of .ensures) _ (c .if2 .taken) (v .before .if1 .left) _ (v .magnitude-of-bits .ensures)
 
 returns-3 : tie.Need-returns-3
 returns-3 c =
-    let k = c .before .before .before .before in
-    L.negative-is (f (k .before)) _ (k .encoding-of .ensures) _ _ (c .before .before .if2 .left) (c .before .if3 .taken) (c .magnitude-of-bits2 .ensures)
-
-returns-4 : tie.Need-returns-4
-returns-4 c =
-    let k = c .before .before .before in
-    L.special-negative (f (k .before)) _ (k .encoding-of .ensures) _ (c .before .if2 .left) (c .if3 .left) (k .before .pre)
+    let v = c .before in
+    let k = v .before .before .before in
+    L.negative-is (f (k .before)) _ (k .encoding-of .ensures) _ (c .if2 .left) (k .before .pre) (v .before .if1 .left) _ (v .magnitude-of-bits .ensures)
 
 pub parts-of-bits-spec : {M : Type 1} → statement M
 parts-of-bits-spec =
     tie.close
     (tie.spec
     encoding-of-requires
-    magnitude-of-bits-requires
+    sub-below
     returns
+    magnitude-of-bits-requires
     returns-2
-    magnitude-of-bits-requires-2
-    returns-3
-    returns-4)
+    returns-3)
