@@ -1,11 +1,11 @@
 -- What is known of a format that passed its check. Assumes nothing.
 use Prim.Native.Nat.{ℕ, _*_, _/_, _^_, _≤_, _<_}
 use mathlib.Core.Path.{_≡_, refl, sym, ap, _∙_, subst}
-use mathlib.Core.Bool.{Bool, true, false, not, cond, _&&_, _||_}
+use mathlib.Core.Bool.{Bool, true, false, cond, _&&_, _||_}
 use mathlib.Core.List.{List, [], _∷_, _++_}
 use mathlib.Core.Option.{Option, none, some}
 use native.Mathlib.Omega.{arith}
-use borrow.Author.Tests.{eqb-true, ltb-false}
+use borrow.Author.Tests.{not-false, eqb-true, ltb-false}
 use lib.Dec.{T, ltb, leb, eqb, eqb→eq, ltb→lt, leb→le}
 use lib.IntN.{ℤ, natAbs}
 use lib.Ieee.Fits.{and-l, and-r}
@@ -90,29 +90,25 @@ pub record Readable (F : NumberFormat) (o : Options) (row : Pair) : Type 0 where
   pub mark-off : isDigit (F .«mantissa_radix») (o .exponent) ≡ false
   pub differ : eqb (o .«decimal_point») (o .exponent) ≡ false
 
-not-false : (b : Bool) → not b ≡ false → b ≡ true
-not-false true e = refl
-not-false false e = sym e
-
-or-false : (a b : Bool) → (a || b) ≡ false → (a ≡ false) × (b ≡ false)
-or-false true b e = (e, absurd (let z : _≡_ {A = ℕ} 0 1 = cc in omega arith))
-or-false false b e = (refl, e)
+neither : (a b : Bool) → (a || b) ≡ false → (a ≡ false) × (b ≡ false)
+neither true b e = (e, absurd (let z : _≡_ {A = ℕ} 0 1 = cc in omega arith))
+neither false b e = (refl, e)
 
 byte-off : (radix x : ℕ) → badByte radix x ≡ false → isDigit radix x ≡ false
 unfolding badByte
 byte-off radix x e =
-    let a = or-false (ltb x 33) _ e in
-    let b = or-false (ltb 126 x) _ (a .1) in
-    let c = or-false (eqb x 43) _ (b .1) in
-    or-false (eqb x 45) _ (c .1) .1
+    let a = neither (ltb x 33) _ e in
+    let b = neither (ltb 126 x) _ (a .1) in
+    let c = neither (eqb x 43) _ (b .1) in
+    neither (eqb x 45) _ (c .1) .1
 
 with-row : (F : NumberFormat) (o : Options) (found row : Pair) (more : List Check) → pairOf F ≡ some found → checked (readingChecks F o ++ more) (done found) ≡ done row → Readable F o row × Passed more
 unfolding pairOf badBytes
 with-row F o found row more q e =
     let k = passed (readingChecks F o ++ more) found row e in
     let r = found-row (F .«mantissa_radix») (F .«exponent_base») pairs row all-tested (q ∙ ap some (k .1)) in
-    let a = or-false (badByte (F .«mantissa_radix») (o .«decimal_point»)) _ (k .0 .1 .0) in
-    let b = or-false (badByte (F .«mantissa_radix») (o .exponent)) _ (a .1) in (
+    let a = neither (badByte (F .«mantissa_radix») (o .«decimal_point»)) _ (k .0 .1 .0) in
+    let b = neither (badByte (F .«mantissa_radix») (o .exponent)) _ (a .1) in (
       record {
         pair = r .0;
         radix-is = sym (r .1) ∙ r .0 .radix-is;
@@ -147,8 +143,8 @@ writable F o row e = go (pairOf F) refl e
     go none q e = absurd (refused-done 1 0 row e)
     go (some found) q e =
         let k = with-row F o found row (writingChecks F o) q e in
-        let a = or-false (ltb 1200 (o .«min_significant_digits»)) _ (k .1 .1 .0) in
-        let b = or-false (ltb 1200 (o .«max_significant_digits»)) _ (a .1) in
+        let a = neither (ltb 1200 (o .«min_significant_digits»)) _ (k .1 .1 .0) in
+        let b = neither (ltb 1200 (o .«max_significant_digits»)) _ (a .1) in
         record {
           reads = k .0;
           least = ltb-false 1200 (o .«min_significant_digits») (a .0);

@@ -17,7 +17,7 @@ use lib.Ieee.Positive.{num, den, den-pos}
 use lib.Ieee.Scale.{grid, overflow}
 use Rattle.lexical_read_float.specs.Round.{largest, tooLarge, apart}
 use Rattle.lexical_read_float.proofs.Rounded.{lower, rounded, rounded-least}
-use Rattle.lexical_util.proofs.FloatLaws.{same-fraction, parts, units}
+use Rattle.lexical_util.proofs.FloatLaws.{same-fraction, own-fraction, units}
 
 -- ---- the edge, a whole number: 2 ^ 1024 - 2 ^ 970, and 2 ^ 128 - 2 ^ 103
 abbrev pub edge : Format → ℕ
@@ -99,7 +99,7 @@ at-most p t j k h l = elim (decLe k j) [
 
 pub at-most-largest : (f : Format) (x : Float) (s : Bool) (a c : ℕ) → T (fits f x) → HasValue x s a c → a ≤ largest f * c
 at-most-largest f x s a c p h =
-    let v = parts x s a c h in
+    let v = own-fraction x s a c h in
     let u = units f x p (v .is-finite) in
     let m : u .digits * 2 ^ u .place ≤ largest f * 2 ^ low f = rw (largest-units f) (at-most (prec f) (u .digits) (u .place) (stepUnits f) (u .few) (rw (overflow-units f) at (u .inside))) in
     let e : a * 2 ^ low f ≡ u .digits * 2 ^ u .place * c = same-fraction (num x) (den x) a c (u .digits * 2 ^ u .place) (2 ^ low f) (den-pos x) (v .cross) (u .is) in

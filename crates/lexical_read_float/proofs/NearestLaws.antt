@@ -17,7 +17,7 @@ use lib.Ieee.Positive.{num, den, den-pos}
 use lib.Ieee.Scale.{grid, finite}
 use Rattle.lexical_read_float.specs.Round.{tooLarge, apart, distance, Nearest}
 use Rattle.lexical_read_float.proofs.Rounded.{Rounded, rounded, kept-range, rounded-least, Tie, rounded-tie}
-use Rattle.lexical_util.proofs.FloatLaws.{same-fraction, Parts, parts, has-value, units, value-unique}
+use Rattle.lexical_util.proofs.FloatLaws.{same-fraction, OwnFraction, own-fraction, has-value, units, value-unique}
 use Rattle.lexical_read_float.proofs.LastBit.{last-bit}
 use Rattle.lexical_read_float.proofs.Largest.{edge, below-edge, below-overflow, round-value}
 
@@ -67,8 +67,8 @@ module _ (f : Format) (s : Bool) (a c : ℕ) (C : 0 < c) (h : a < edge f * c) wh
   rounding : Rounded (prec f) (a * 2 ^ low f) c (dropped f a c) (keeps f a c)
   rounding = rounded (prec f) (a * 2 ^ low f) c positive C
 
-  result : Parts (round f s a c) s (grid f a c) (2 ^ low f)
-  result = parts (round f s a c) s (grid f a c) (2 ^ low f) (round-value f s a c (below-overflow f a c C h))
+  result : OwnFraction (round f s a c) s (grid f a c) (2 ^ low f)
+  result = own-fraction (round f s a c) s (grid f a c) (2 ^ low f) (round-value f s a c (below-overflow f a c C h))
 
   -- the last bit of a float that is a multiple of 2 ^ dropped within half of that from a / c
   last-bit-near : (x : Float) (z : ℕ) → 2 * apart (a * 2 ^ low f) (z * (c * 2 ^ dropped f a c)) ≤ c * 2 ^ dropped f a c → HasValue x s (num x) (den x)
@@ -99,7 +99,7 @@ module _ (f : Format) (s : Bool) (a c : ℕ) (C : 0 < c) (h : a < edge f * c) wh
   pub only-below-edge : (x : Float) → Nearest f s a c x → x ≡ round f s a c
   only-below-edge x n =
       let r = round f s a c in
-      let v = parts x s (num x) (den x) (n .signed) in
+      let v = own-fraction x s (num x) (den x) (n .signed) in
       elim (ℕ-discrete (num x * den r) (num r * den x)) [
         | yes e ↦ value-unique f s x r (num r) (den r) (den-pos r) (n .held) (round-fits f s a c) (has-value x s (num r) (den r) (n .signed) e) (result .own)
         | no d ↦

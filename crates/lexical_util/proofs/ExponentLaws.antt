@@ -19,22 +19,22 @@ use mir.Val.{Fits, SFits, toZ, ofZ}
 use mir.Facts.{toZ-ofZ, toZ-pos}
 use Rattle.lexical_util.specs.Num.{scale, LeadingBit, place, isNegative, power}
 use Rattle.lexical_util.proofs.DifferenceLaws.{by-larger, widened}
-use Rattle.lexical_util.proofs.PowerLaws.{size-zero, size-some, leading-size}
+use Rattle.lexical_util.proofs.PowerLaws.{size-pos, leading-size}
 
 -- ---- significant bits by leading zeros, and s
 pub bits-are : (x : ℕ) → x < 2 ^ 64
     → (64 - leadingZeros 64 x ≡ size x) × ((64 - leadingZeros 64 x ≤ 64) × (x < 2 ^ (64 - leadingZeros 64 x)) × (0 < x → 2 ^ (64 - leadingZeros 64 x - 1) ≤ x))
 bits-are x h =
     let e : 64 - leadingZeros 64 x ≡ size x = omega (arith, leading-size 64 x h) in
-    (e, rw e (size-le x 64 h, size-lt x, λ p. size-reaches x (size x - 1) (omega (arith, size-some x p))))
+    (e, rw e (size-le x 64 h, size-lt x, λ p. size-reaches x (size x - 1) (omega (arith, size-pos x p))))
 
 pub scale-zero : (m : ℕ) (e : ℤ) → size m ≡ 0 → pos 0 ≡ scale m e
 scale-zero zero e h = refl
-scale-zero (suc m) e h = absurd (omega (arith, size-some (suc m) (omega arith)))
+scale-zero (suc m) e h = absurd (omega (arith, size-pos (suc m) (omega arith)))
 
-pub scale-some : (m : ℕ) (e : ℤ) → (size m ≡ 0 → ⊥) → e +ℤ pos (size m - 1) ≡ scale m e
-scale-some zero e h = absurd (h size-zero)
-scale-some (suc m) e h = refl
+pub scale-is : (m : ℕ) (e : ℤ) → 0 < m → scale m e ≡ e +ℤ pos (size m - 1)
+scale-is zero e h = absurd (omega arith)
+scale-is (suc m) e h = refl
 
 -- 2 ^ (z + n) is 2 ^ n * 2 ^ z
 raised : (z : ℤ) (n : ℕ) → up (z +ℤ pos n) * down z ≡ 2 ^ n * up z * down (z +ℤ pos n)
@@ -52,7 +52,7 @@ pub leading-bit : (m : ℕ) (e s : ℤ) → s ≡ scale m e → 0 < m → Leadin
 leading-bit zero e s is h = absurd (omega arith)
 leading-bit (suc m) e s is h =
     let n : ℕ = size (suc m) - 1 in
-    let p = size-some (suc m) h in
+    let p = size-pos (suc m) h in
     let more : suc n ≡ size (suc m) = omega arith in
     let next : s +ℤ pos 1 ≡ e +ℤ pos (suc n) = ap (λ (z : ℤ). z +ℤ pos 1) is ∙ +ℤ-assoc e (pos n) (pos 1) ∙ ap (λ (k : ℕ). e +ℤ pos k) (add-one n) in
     record {

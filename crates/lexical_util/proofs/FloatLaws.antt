@@ -22,15 +22,15 @@ pub same-fraction : (x u a c b l : ℕ) → 0 < u → x * c ≡ a * u → x * l 
 same-fraction x u a c b l U h k = eq-of-mul-eq-mul-right u U (a * l) (b * c) (rw (mul-right-comm a l u, ← h, mul-right-comm x c l, k, mul-right-comm b u c))
 
 -- ---- a float's own fraction
-pub record Parts (x : Float) (s : Bool) (a c : ℕ) : Type 0 where
+pub record OwnFraction (x : Float) (s : Bool) (a c : ℕ) : Type 0 where
   pub is-finite : T (finite x)
   pub own : HasValue x s (num x) (den x)
   pub cross : num x * c ≡ a * den x
 
-pub parts : (x : Float) (s : Bool) (a c : ℕ) → HasValue x s a c → Parts x s a c
-parts nan s a c h = absurd h
-parts (inf t) s a c h = absurd h
-parts (fin t m e) s a c h = record { is-finite = tt; own = (h .0, refl); cross = h .1 }
+pub own-fraction : (x : Float) (s : Bool) (a c : ℕ) → HasValue x s a c → OwnFraction x s a c
+own-fraction nan s a c h = absurd h
+own-fraction (inf t) s a c h = absurd h
+own-fraction (fin t m e) s a c h = record { is-finite = tt; own = (h .0, refl); cross = h .1 }
 
 pub has-value : (x : Float) (s : Bool) (a c : ℕ) → HasValue x s (num x) (den x) → num x * c ≡ a * den x → HasValue x s a c
 has-value nan s a c h e = h
@@ -89,7 +89,7 @@ units f (fin s (suc m) e) h k =
 -- ---- whatever fraction equals a float of the width is rounded to it
 pub round-of-value : (f : Format) (s : Bool) (x : Float) (a c : ℕ) → 0 < c → T (fits f x) → HasValue x s a c → round f s a c ≡ x
 round-of-value f s x a c C p h =
-    let v = parts x s a c h in
+    let v = own-fraction x s a c h in
     let u = units f x p (v .is-finite) in
     value-unique f s (round f s a c) x a c C (round-fits f s a c) p
     (round-exact f s a c (u .digits) (u .place) C (u .few) (u .inside) (same-fraction (num x) (den x) a c (u .digits * 2 ^ u .place) (2 ^ low f) (den-pos x) (v .cross) (u .is)))

@@ -1,7 +1,7 @@
 -- The bits of m * 2 ^ k of a width's least values are k * hid + m, with the leading bit or where k is 0; and which m and k fit. One proof for both widths. Assumes nothing.
 use Prim.Native.Nat.{ℕ, zero, suc, _+_, _-_, _*_, _/_, _%_, _^_, _≤_, _<_}
 use mathlib.Core.Path.{_≡_, refl, sym, ap, _∙_, subst}
-use mathlib.Core.Bool.{Bool, true, false, cond, _&&_, _||_}
+use mathlib.Core.Bool.{Bool, true, false, cond, _&&_, _||_, and-false, or-true}
 use mathlib.Core.Option.{none, some}
 use mathlib.Core.Logic.{_⊎_, inl, inr}
 use native.Mathlib.Nat.{mod-lt, one-mul, pos-of-ne-zero, eq-or-lt-of-le, div-eq-of-lt, mod-eq-of-lt, suc-mul, mul-assoc, mul-comm, mul-right-comm, pow-succ', le-trans, le-of-eq, lt-of-lt-of-le, mul-le-mul-right, mul-le-mul-left, mul-lt-mul-of-pos-right, lt-of-mul-lt-mul-right, le-of-mul-le-mul-right}
@@ -80,14 +80,6 @@ fitting-is : (f : Format) (m k : ℕ) → fitting f m (minus k (low f))
     ≡ (leb m (2 ^ prec f) && ((leb k 0 || leb (hid f) m) && ltb (m * up (minus k (low f))) (2 ^ suc (emax f) * down (minus k (low f)))))
 unfolding fitting
 fitting-is f m k = rw (minus-le 0 k (low f), le-leb 0 k (omega arith), minus-le k 0 (low f))
-
-and-false : (b : Bool) → (b && false) ≡ false
-and-false true = refl
-and-false false = refl
-
-or-true : (b : Bool) → (b || true) ≡ true
-or-true true = refl
-or-true false = refl
 
 module _ (f : Format) (m k : ℕ) where
   pub fits-yes : m ≤ 2 * hid f → (leb k 0 || leb (hid f) m) ≡ true → m * 2 ^ k < overflow f → fitting f m (minus k (low f)) ≡ true

@@ -17,8 +17,8 @@ size-more n j h = lt-of-not-le (λ (g : size n ≤ j). not-le-of-lt (lt-of-lt-of
 pub size-zero : size 0 ≡ 0
 size-zero = omega (arith, size-le 0 0 (pow-pos 0))
 
-pub size-some : (n : ℕ) → 0 < n → 0 < size n
-size-some n h = size-more n 0 h
+pub size-pos : (n : ℕ) → 0 < n → 0 < size n
+size-pos n h = size-more n 0 h
 
 -- the width less the leading zeros is the size
 pub leading-size : (w x : ℕ) → x < 2 ^ w → leadingZeros w x + size x ≡ w

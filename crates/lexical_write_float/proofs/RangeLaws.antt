@@ -13,15 +13,16 @@ use lib.Ieee.{fin, Format, binary32, binary64, prec, emax, low, up, down, size, 
 use lib.Ieee.Digits.{size-lt, size-le, size-reaches}
 use lib.Ieee.Fits.{and-l, and-r, nearest-le}
 use Rattle.lexical_util.specs.Num.{scale, place}
+use Rattle.lexical_util.proofs.ExponentLaws.{scale-is}
 use Rattle.lexical_util.proofs.PowerLaws.{power-le}
 use Rattle.lexical_format.specs.declared.options.RoundMode.{RoundMode}
 use Rattle.lexical_format.specs.declared.options.RoundMode.the-variants.{Round, Truncate}
-use Rattle.lexical_write_integer.proofs.DigitsLaws.{size-pos}
+use Rattle.lexical_util.proofs.PowerLaws.{size-pos}
 use Rattle.lexical_write_float.specs.Value.{normal, modulo}
 use Rattle.lexical_write_float.specs.Limit.{unitExponent, rounded, multipleOf, limited}
 use Rattle.lexical_util.proofs.DifferenceLaws.{nat-less, nat-more}
 use Rattle.lexical_write_float.proofs.Integers.{floor-modulo, times-below, move}
-use Rattle.lexical_write_float.proofs.ValueLaws.{scale-is, is-normal, normal-shift, scale-normal}
+use Rattle.lexical_write_float.proofs.ValueLaws.{is-normal, normal-shift, scale-normal}
 
 -- ---- from -low to high
 abbrev pub Between : ℕ → ℕ → ℤ → Type 0

@@ -11,9 +11,10 @@ use lib.Pow.{pow-add, pow-pos, shl-lt}
 use lib.Ieee.{size}
 use lib.Ieee.Digits.{size-lt, size-le, size-reaches}
 use Rattle.lexical_util.specs.Num.{scale, place}
-use Rattle.lexical_util.proofs.PowerLaws.{size-more}
+use Rattle.lexical_util.proofs.ExponentLaws.{scale-is}
+use Rattle.lexical_util.proofs.PowerLaws.{size-more, size-pos}
 use Rattle.lexical_write_integer.specs.Digits.{digits}
-use Rattle.lexical_write_integer.proofs.DigitsLaws.{radix-above, size-pos, count-bits, first-pos, length-numeral}
+use Rattle.lexical_write_integer.proofs.DigitsLaws.{radix-above, count-bits, first-pos, length-numeral}
 use Rattle.lexical_write_float.specs.Value.{Value, normal, modulo, exactDigits}
 use Rattle.lexical_write_float.proofs.Integers.{modulo-lt, floor-modulo, floor-add}
 
@@ -24,11 +25,6 @@ size-shift m t h =
     let lo : 2 ^ (size m - 1 + t) ≤ m * 2 ^ t = le-trans (le-of-eq (pow-add 2 (size m - 1) t)) (mul-le-mul-right (2 ^ t) (size-reaches m (size m - 1) (omega arith))) in
     let l = size-more (m * 2 ^ t) (size m - 1 + t) lo in
     le-antisymm (size-le (m * 2 ^ t) (size m + t) (shl-lt (size m) t (size-lt m))) (omega arith)
-
--- s of a value that is not zero
-pub scale-is : (m : ℕ) (e : ℤ) → 0 < m → scale m e ≡ e +ℤ pos (size m - 1)
-scale-is zero e h = absurd (omega arith)
-scale-is (suc m) e h = refl
 
 -- ---- the normal form: n is an odd number times 2 ^ shift
 pub record IsNormal (n : ℕ) (e : ℤ) (v : Value) : Type 0 where

@@ -6,8 +6,8 @@ use native.Mathlib.Omega.{arith}
 use lib.Pow.{pow-pos}
 use lib.Ieee.{size}
 use Rattle.lexical_write_integer.specs.Claims.{ReadBack, EachBelow, NoLeadingZero, DigitCount}
-use Rattle.lexical_write_integer.proofs.DigitsLaws.{digits-value, digits-below, first-pos, count-lt, count-bits, size-pos}
-use Rattle.lexical_util.proofs.PowerLaws.{size-zero}
+use Rattle.lexical_write_integer.proofs.DigitsLaws.{digits-value, digits-below, first-pos, count-lt, count-bits}
+use Rattle.lexical_util.proofs.PowerLaws.{size-zero, size-pos}
 
 pub read-back : ReadBack
 read-back radix x h = digits-value radix h x

@@ -13,6 +13,7 @@ use lib.Seq.{getD-at}
 use lib.Ieee.{size}
 use lib.Ieee.Digits.{size-lt, size-reaches}
 use Rattle.lexical_util.specs.Digit.{digitByte, AreDigits, readOn, digitsValue}
+use Rattle.lexical_util.proofs.PowerLaws.{size-pos}
 use Rattle.lexical_write_integer.specs.Digits.{digitsUpTo, digits, numeral}
 
 -- ---- the two cases, and induction by them
@@ -138,13 +139,6 @@ count-by-bits b j x hb l h =
   where
     above : suc j ≤ b * suc (j / b)
     above = rw (mul-suc, mul-comm b (j / b)) (lt-div-mul-add {a = j} {b = b} hb)
-
-pub size-pos : (x : ℕ) → 0 < x → 0 < size x
-size-pos x h = go (size x) refl
-  where
-    go : (s : ℕ) → size x ≡ s → 0 < size x
-    go zero e = absurd (omega (arith, rw e at (size-lt x)))
-    go (suc s) e = omega arith
 
 pub count-bits : (b x : ℕ) → 0 < b → 0 < x → length (digits (2 ^ b) x) ≡ suc ((size x - 1) / b)
 count-bits b x hb hx =

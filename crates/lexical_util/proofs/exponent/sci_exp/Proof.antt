@@ -1,14 +1,17 @@
 -- `lexical_util::exponent::sci_exp` meets its contract: zero has no significant bit, and any other value's leading bit stands above its exponent. Assumes nothing.
 use Prim.Native.Nat.{_-_, _<_}
-use mathlib.Core.Path.{_≡_, sym, _∙_}
+use mathlib.Core.Path.{_≡_, sym, ap, _∙_}
+use native.Mathlib.Nat.{pos-of-ne-zero}
 use native.Mathlib.Omega.{arith}
 use borrow.Author.Needs.{needs}
 use lib.IntN.{ℤ}
+use lib.Ieee.{size}
 use mir.Syntax.{w16}
 use mir.Val.{SFits}
 use Rattle.lexical_util.specs.Num.{scale, LeadingBit}
 use Rattle.lexical_util.proofs.DifferenceLaws.{widened}
-use Rattle.lexical_util.proofs.ExponentLaws.{scale-zero, scale-some, leading-bit, coded-sum-fits, coded-sum-is}
+use Rattle.lexical_util.proofs.ExponentLaws.{scale-zero, scale-is, leading-bit, coded-sum-fits, coded-sum-is}
+use Rattle.lexical_util.proofs.PowerLaws.{size-zero}
 use Rattle.lexical_util.proofs.exponent.sci_exp.Statement.{statement}
 use Rattle.lexical_util.proofs.exponent.sci_exp.Tie as tie
 
@@ -45,7 +48,7 @@ returns-2 c =
     let k = c .before .before .before in
     led (k .before)
     (coded-sum-is _ _ (fitted c) (few c)
-    ∙ rw (k .significant-bits .ensures .0) (scale-some (k .before .args .value .mantissa) _ (λ e. c .before .before .if1 .left (k .significant-bits .ensures .0 ∙ e))))
+    ∙ rw (k .significant-bits .ensures .0) (sym (scale-is (k .before .args .value .mantissa) _ (pos-of-ne-zero (λ e. c .before .before .if1 .left (k .significant-bits .ensures .0 ∙ ap size e ∙ size-zero))))))
 
 pub sci-exp-spec : {M : Type 1} → statement M
 sci-exp-spec =

@@ -1,8 +1,7 @@
 -- `lexical_write_integer::digit_count::fast_log2` meets its contract: the width less the leading zeros is the size. Assumes nothing.
 use native.Mathlib.Nat.{pos-of-ne-zero}
 use native.Mathlib.Omega.{arith}
-use Rattle.lexical_util.proofs.PowerLaws.{size-zero, leading-size}
-use Rattle.lexical_write_integer.proofs.DigitsLaws.{size-pos}
+use Rattle.lexical_util.proofs.PowerLaws.{size-zero, size-pos, leading-size}
 use Rattle.lexical_write_integer.proofs.digit_count.fast_log2.Statement.{statement}
 use Rattle.lexical_write_integer.proofs.digit_count.fast_log2.Tie as tie
 
