@@ -2,9 +2,10 @@
 use Prim.Native.Nat.{ℕ, suc, _+_, _-_, _*_, _/_, _%_, _^_, _≤_, _<_}
 use mathlib.Core.Path.{_≡_, sym, ap, _∙_}
 use mathlib.Core.Bool.{Bool, true, false}
-use native.Mathlib.Nat.{mod-lt, mod-eq-of-lt, add-mod-left, mul-pos, mul-le-mul-right, zero-lt-suc}
+use native.Mathlib.Nat.{mod-lt, mul-pos, zero-lt-suc}
 use native.Mathlib.Omega.{arith}
-use borrow.Author.Tests.{eq-eqb, ne-eqb}
+use borrow.Author.Tests.{le-leb, lt-leb, eq-eqb, ne-eqb}
+use lib.Dec.{leb}
 use lib.Bits.{bitAnd, and-mask}
 use lib.IntN.{ℤ, pos, _+ℤ_, _-ℤ_}
 use lib.Signed.{ltZ}
@@ -20,9 +21,9 @@ use Rattle.lexical_util.specs.declared.num.Parts.the-variants.{Plain, Ne
 use Rattle.lexical_util.specs.Encoding.{encodingOf, bitsOf}
 use Rattle.lexical_util.specs.Pattern.{BitsOf, IsBits}
 use Rattle.lexical_util.specs.Parts.{magnitudeOf, partsOf, fitting}
-use Rattle.lexical_util.proofs.DifferenceLaws.{by-larger, minus-fits, minus-add, difference-fits, difference-is}
+use Rattle.lexical_util.proofs.DifferenceLaws.{minus-fits, minus-add, difference-fits, difference-is}
 use Rattle.lexical_util.proofs.PatternLaws.{few-is, too-long, no-lead, too-large, too-low, past, sum-is, sum-over}
-use Rattle.lexical_util.proofs.PartsLaws.{signed, finite-below, magnitude-bits, parts-bits, special-bits}
+use Rattle.lexical_util.proofs.PartsLaws.{signed, finite-below, magnitude-bits, parts-bits, special-bits, sign-and-rest}
 
 -- what is known of the two widths' numbers
 pub record Small (f : Format) : Type 0 where
@@ -37,6 +38,15 @@ pub small : (f : Format) → Small f
 small binary32 = record { size = omega arith; hidden = omega arith; largest = omega arith; words = omega arith; exponents = omega arith; least = omega arith }
 small binary64 = record { size = omega arith; hidden = omega arith; largest = omega arith; words = omega arith; exponents = omega arith; least = omega arith }
 
+-- ---- what the code keeps of a width
+module _ (f : Format) (E : Encoding) (is : E ≡ encodingOf f) where
+  pub hidden-few : E .«hidden_bit_mask» ≤ 4503599627370496
+  hidden-few = rw is (small f .hidden)
+
+  -- the denormals' exponent, as the code reads it
+  least : toZ w16 (ofZ w16 (E .«denormal_exponent»)) ≡ minus 0 (low f)
+  least = rw is (toZ-ofZ (minus-fits w16 0 (low f) (omega arith) (omega (arith, small f .least))))
+
 -- ---- at the width's own masks, the code's answer is the magnitude
 module _ (f : Format) (E : Encoding) (is : E ≡ encodingOf f) (bits : ℕ) (h : bits < ones f * hid f) where
   pub mask-some : 1 ≤ E .«hidden_bit_mask»
@@ -48,8 +58,8 @@ module _ (f : Format) (E : Encoding) (is : E ≡ encodingOf f) (bits : ℕ) (h :
   masked : bitAnd bits (E .«hidden_bit_mask» - 1) ≡ bits % hid f
   masked = rw is (and-mask bits (prec f - 1))
 
-  pub stored-few : (E .«hidden_bit_mask» ≤ 4503599627370496) × (bitAnd bits (E .«hidden_bit_mask» - 1) < 4503599627370496)
-  stored-few = (rw is (small f .hidden), rw masked (omega (arith, small f .hidden, mod-lt bits (pow-pos (prec f - 1)))))
+  pub stored-few : bitAnd bits (E .«hidden_bit_mask» - 1) < 4503599627370496
+  stored-few = rw masked (omega (arith, small f .hidden, mod-lt bits (pow-pos (prec f - 1))))
 
   pub biased-fits : SFits w16 (pos (bits / 2 ^ E .«mantissa_size»))
   biased-fits = rw is (record { sfits = omega (arith, small f .exponents, finite-below f bits h .1) })
@@ -61,8 +71,7 @@ module _ (f : Format) (E : Encoding) (is : E ≡ encodingOf f) (bits : ℕ) (h :
       → record { mantissa = bitAnd bits (E .«hidden_bit_mask» - 1); exponent = toZ w16 (ofZ w16 (E .«denormal_exponent»)) } ≡ magnitudeOf f (ofBits f bits)
   denormal-is z =
       let q : bits / hid f ≡ 0 = rw is at z in
-      let e : toZ w16 (ofZ w16 (E .«denormal_exponent»)) ≡ minus 0 (low f) = rw is (toZ-ofZ (minus-fits w16 0 (low f) (omega arith) (omega (arith, small f .least)))) in
-      rw (masked, e) (sym (magnitude-bits f false bits h ∙ rw (eq-eqb (bits / hid f) 0 q)))
+      rw (masked, least f E is) (sym (magnitude-bits f false bits h ∙ rw (eq-eqb (bits / hid f) 0 q)))
 
   pub normal-is : (bits / 2 ^ E .«mantissa_size» ≡ 0 → ⊥)
       → record { mantissa = E .«hidden_bit_mask» + bitAnd bits (E .«hidden_bit_mask» - 1); exponent = toZ w16 (ofZ w16 (toZ w16 (bits / 2 ^ E .«mantissa_size») -ℤ toZ w16 (ofZ w16 (E .«exponent_bias»)))) }
@@ -95,34 +104,26 @@ module _ (f : Format) (E : Encoding) (is : E ≡ encodingOf f) where
     rest : below-sign ≡ bits % top f
     rest = ap (λ (x : ℕ). bitAnd bits (x - 1)) sign ∙ sign-masked f bits
 
+    split : bits < 2 * top f → bits ≡ bitsOf f (leb (top f) bits) below-sign
+    split few = sign-and-rest f bits few ∙ ap (bitsOf f (leb (top f) bits)) (sym rest)
+
     pub finite-rest : below-sign < E .«exponent_mask» → below-sign < ones f * hid f
     finite-rest h = rw infinity at h
 
-    clear : bits < E .«sign_mask» → bits ≡ bitsOf f false below-sign
-    clear h = sym (rest ∙ mod-eq-of-lt (rw sign at h))
+    finite-is : bits < 2 * top f → below-sign < E .«exponent_mask» → (v : Magnitude) → v ≡ magnitudeOf f (ofBits f below-sign) → partsOf f (ofBits f bits) ≡ signed (leb (top f) bits) v
+    finite-is few h v e =
+        ap (λ (x : ℕ). partsOf f (ofBits f x)) (split few) ∙ parts-bits f (leb (top f) bits) below-sign (finite-rest h) ∙ ap (signed (leb (top f) bits)) (sym e)
 
-    set : E .«sign_mask» ≤ bits → bits < 2 * top f → bits ≡ bitsOf f true below-sign
-    set l few =
-        let m : bits % top f ≡ bits - top f = ap (λ (x : ℕ). x % top f) (let z : bits ≡ top f + (bits - top f) = omega (arith, sign) in z) ∙ add-mod-left (top f) (bits - top f) ∙ mod-eq-of-lt (omega (arith, sign)) in
-        omega (arith, sign, rest)
-
-    parts-at : (s : Bool) → bits ≡ bitsOf f s below-sign → below-sign < E .«exponent_mask» → (v : Magnitude) → v ≡ magnitudeOf f (ofBits f below-sign) → signed s v ≡ partsOf f (ofBits f bits)
-    parts-at s b h v e = sym (ap (λ (x : ℕ). partsOf f (ofBits f x)) b ∙ parts-bits f s below-sign (finite-rest h) ∙ ap (signed s) (sym e))
-
-    pub plain-is : bits < E .«sign_mask» → below-sign < E .«exponent_mask» → (v : Magnitude) → v ≡ magnitudeOf f (ofBits f below-sign) → Plain v ≡ partsOf f (ofBits f bits)
-    plain-is l = parts-at false (clear l)
+    pub plain-is : bits < E .«sign_mask» → bits < 2 * top f → below-sign < E .«exponent_mask» → (v : Magnitude) → v ≡ magnitudeOf f (ofBits f below-sign) → Plain v ≡ partsOf f (ofBits f bits)
+    plain-is l few h v e = sym (finite-is few h v e ∙ ap (λ (s : Bool). signed s v) (lt-leb (top f) bits (rw sign at l)))
 
     pub negative-is : E .«sign_mask» ≤ bits → bits < 2 * top f → below-sign < E .«exponent_mask» → (v : Magnitude) → v ≡ magnitudeOf f (ofBits f below-sign) → Negative v ≡ partsOf f (ofBits f bits)
-    negative-is l few = parts-at true (set l few)
-
-    special-at : (s : Bool) → bits ≡ bitsOf f s below-sign → E .«exponent_mask» ≤ below-sign → Special ≡ partsOf f (ofBits f bits)
-    special-at s b h =
-        let few : below-sign < top f = rw rest (mod-lt bits (rw sign at sign-some)) in
-        sym (ap (λ (x : ℕ). partsOf f (ofBits f x)) b ∙ special-bits f s below-sign (rw infinity at h) few)
+    negative-is l few h v e = sym (finite-is few h v e ∙ ap (λ (s : Bool). signed s v) (le-leb (top f) bits (rw sign at l)))
 
     pub special-is : bits < 2 * top f → E .«exponent_mask» ≤ below-sign → Special ≡ partsOf f (ofBits f bits)
     special-is few h =
-        by-larger bits (E .«sign_mask») (Special ≡ partsOf f (ofBits f bits)) (λ l. special-at true (set l few) h) (λ l. special-at false (clear l) h)
+        let below-top : below-sign < top f = rw rest (mod-lt bits (rw sign at sign-some)) in
+        sym (ap (λ (x : ℕ). partsOf f (ofBits f x)) (split few) ∙ special-bits f (leb (top f) bits) below-sign (rw infinity at h) below-top)
 
 -- ---- the way back: the code's tests tell which m and k fit
 module _ (f : Format) (E : Encoding) (is : E ≡ encodingOf f) (m k : ℕ) where
@@ -144,9 +145,6 @@ module _ (f : Format) (E : Encoding) (is : E ≡ encodingOf f) (m k : ℕ) where
   pub lift-no : E .«hidden_bit_mask» ≤ m → 2047 < k → fitting f m (minus k (low f)) ≡ false
   lift-no h l = too-large f m k (past f m k (rw hidden at h) (omega (arith, small f .largest)))
 
-  pub lifted-few : k ≤ 2047 → (E .«hidden_bit_mask» ≤ 4503599627370496) × (k * E .«hidden_bit_mask» ≤ 2047 * E .«hidden_bit_mask»)
-  lifted-few l = (rw is (small f .hidden), mul-le-mul-right (E .«hidden_bit_mask») l)
-
   pub bits-yes : E .«hidden_bit_mask» ≤ m → m ≤ 2 * E .«hidden_bit_mask» → k * E .«hidden_bit_mask» + m < E .«exponent_mask» → BitsOf f m (minus k (low f)) (k * E .«hidden_bit_mask» + m)
   bits-yes lo hi h = rw is (sum-is f m k (rw is at lo) (rw is at hi) (rw is at h))
 
@@ -166,11 +164,8 @@ module _ (f : Format) (E : Encoding) (is : E ≡ encodingOf f) (n : ℕ) where
 
 -- ---- an exponent against the least one, both as the code has them
 module _ (f : Format) (E : Encoding) (is : E ≡ encodingOf f) (m : ℕ) (e : ℤ) (h : SFits w16 e) where
-  least : toZ w16 (ofZ w16 (E .«denormal_exponent»)) ≡ minus 0 (low f)
-  least = rw is (toZ-ofZ (minus-fits w16 0 (low f) (omega arith) (omega (arith, small f .least))))
-
   pub low-no : ltZ (toZ w16 (ofZ w16 e)) (toZ w16 (ofZ w16 (E .«denormal_exponent»))) ≡ true → fitting f m e ≡ false
-  low-no t = too-low f m e (rw (toZ-ofZ h, least) at t)
+  low-no t = too-low f m e (rw (toZ-ofZ h, least f E is) at t)
 
   pub lift-is : (k : ℕ) (r : Pattern) → toZ w16 (ofZ w16 e) ≡ toZ w16 (ofZ w16 (E .«denormal_exponent»)) +ℤ pos k → IsBits f m (minus k (low f)) r → IsBits f m e r
-  lift-is k r l b = rw (sym (toZ-ofZ h) ∙ l ∙ ap (λ (z : ℤ). z +ℤ pos k) least ∙ minus-add k (low f)) b
+  lift-is k r l b = rw (sym (toZ-ofZ h) ∙ l ∙ ap (λ (z : ℤ). z +ℤ pos k) (least f E is) ∙ minus-add k (low f)) b

@@ -164,6 +164,10 @@ pub split-bits : (f : Format) (b : ℕ) → b < 2 * top f → (P : ℕ → Type 
 split-bits f b h P each =
     by-larger b (top f) (P b) (λ l. subst P (let z : top f + (b - top f) ≡ b = omega arith in z) (each true (b - top f) (omega arith))) (λ l. each false b l)
 
+-- the sign and the bits below it, by comparison and remainder
+pub sign-and-rest : (f : Format) (b : ℕ) → b < 2 * top f → b ≡ bitsOf f (leb (top f) b) (b % top f)
+sign-and-rest f b h = split-bits f b h (λ b. b ≡ bitsOf f (leb (top f) b) (b % top f)) (λ s n l. let w = below f s n l in rw (w .sign, w .rest))
+
 pub parts-value : PartsAreTheValue
 parts-value f x h =
     subst (λ (y : Float). IsValue y (partsOf f y)) (ofBits-toBits f x h)

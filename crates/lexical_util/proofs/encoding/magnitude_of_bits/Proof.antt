@@ -26,7 +26,9 @@ returns : tie.Need-returns
 returns c = let k = c .before .before .before in L.denormal-is (f (k .before)) _ (k .encoding-of .ensures) _ (k .before .pre) (c .before .if1 .taken)
 
 add-t7 : tie.Need-add-t7
-add-t7 c = let k = c .before .before in let few = L.stored-few (f (k .before)) _ (k .encoding-of .ensures) _ (k .before .pre) in omega (arith, few .0, few .1)
+add-t7 c =
+    let k = c .before .before in
+    omega (arith, L.hidden-few (f (k .before)) _ (k .encoding-of .ensures), L.stored-few (f (k .before)) _ (k .encoding-of .ensures) _ (k .before .pre))
 
 cast-t9 : tie.Need-cast-t9
 cast-t9 c = let k = c .before .before in L.biased-fits (f (k .before)) _ (k .encoding-of .ensures) _ (k .before .pre)

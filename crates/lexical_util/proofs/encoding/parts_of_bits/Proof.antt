@@ -25,7 +25,7 @@ returns-2 : tie.Need-returns-2
 returns-2 c =
     let v = c .before in
     let k = v .before .before .before in
-    L.plain-is (f (k .before)) _ (k .encoding-of .ensures) _ (c .if2 .taken) (v .before .if1 .left) _ (v .magnitude-of-bits .ensures)
+    L.plain-is (f (k .before)) _ (k .encoding-of .ensures) _ (c .if2 .taken) (k .before .pre) (v .before .if1 .left) _ (v .magnitude-of-bits .ensures)
 
 returns-3 : tie.Need-returns-3
 returns-3 c =

@@ -1,5 +1,6 @@
 -- `lexical_util::pattern::bits_of_units` meets its contract: its tests tell which mantissa and exponent fit. Assumes nothing.
-use Prim.Native.Nat.{_*_, _≤_}
+use Prim.Native.Nat.{ℕ, _*_, _≤_}
+use native.Mathlib.Nat.{mul-le-mul-right}
 use native.Mathlib.Omega.{arith}
 use borrow.Author.Needs.{needs}
 use lib.Ieee.{Format}
@@ -11,10 +12,12 @@ use Rattle.lexical_util.proofs.pattern.bits_of_units.Tie as tie
 abbrev f : tie.Start → Format
 f c = formatOf (c .args .width)
 
+abbrev hidden : tie.Else4 → ℕ
+hidden c = c .before .before .before .encoding-of .result .«hidden_bit_mask»
+
 -- where the lift is small, the sum fits
-lifted : (c : tie.Else4) → (c .before .before .before .encoding-of .result .«hidden_bit_mask» ≤ 4503599627370496)
-    × (c .before .before .before .before .args .lift * c .before .before .before .encoding-of .result .«hidden_bit_mask» ≤ 2047 * c .before .before .before .encoding-of .result .«hidden_bit_mask»)
-lifted c = let k = c .before .before .before in L.lifted-few (f (k .before)) _ (k .encoding-of .ensures) 0 _ (c .if4 .left)
+few : (c : tie.Else4) → (hidden c ≤ 4503599627370496) × (c .before .before .before .before .args .lift * hidden c ≤ 2047 * hidden c)
+few c = let k = c .before .before .before in (L.hidden-few (f (k .before)) _ (k .encoding-of .ensures), mul-le-mul-right (hidden c) (c .if4 .left))
 
 encoding-of-requires : tie.Need-encoding-of-requires
 encoding-of-requires c κs = search needs
@@ -35,10 +38,10 @@ returns-4 : tie.Need-returns-4
 returns-4 c = let k = c .before .before .before in L.lift-no (f (k .before)) _ (k .encoding-of .ensures) _ _ (c .before .if2 .left) (c .if4 .taken)
 
 mul-bits : tie.Need-mul-bits
-mul-bits c = let few = lifted c in omega (arith, few .0, few .1)
+mul-bits c = let w = few c in omega (arith, w .0, w .1)
 
 add-bits : tie.Need-add-bits
-add-bits c = let few = lifted c in omega (arith, few .0, few .1, c .before .before .if1 .left)
+add-bits c = let w = few c in omega (arith, w .0, w .1, c .before .before .if1 .left)
 
 returns-5 : tie.Need-returns-5
 returns-5 c = let k = c .before .before .before .before in L.bits-yes (f (k .before)) _ (k .encoding-of .ensures) _ _ (c .before .before .if2 .left) (c .before .before .before .if1 .left) (c .if5 .taken)
