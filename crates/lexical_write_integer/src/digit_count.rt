@@ -7,16 +7,14 @@ ghost use lib.ListN.{length};
 ghost use Rattle.lexical_util.specs.Digit.{isRadix};
 ghost use Rattle.lexical_write_integer.specs.Digits.{digits};
 use crate::decimal::decimal_count;
+use lexical_util::significant_bits;
 
 // The place of the highest bit that is set, 0 for 0.
 pub(crate) fn fast_log2(x: u64) -> u32
     ensures { λ r. ⌜ r ≡ size x - 1 ⌝ }
 {
-    if x == 0 {
-        0
-    } else {
-        63 - u64::leading_zeros(x)
-    }
+    let bits = significant_bits(x);
+    if bits == 0 { 0 } else { bits - 1 }
 }
 
 // How many digits value has in radix 2^b.
