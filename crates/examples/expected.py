@@ -1,5 +1,5 @@
 #!/usr/bin/env python3
-"""Prints what the program `examples` must write, from document 01 and IEEE 754 and from nothing of this repository:
+"""Prints what the program `examples` must write, from document 01 and IEEE 754, and with no code of this repository:
 
     python3 crates/examples/expected.py | diff - crates/examples/stdout
 """
@@ -118,7 +118,7 @@ def float_lines():
         yield made_line(width, True, m, e)
 
 
-# ---- the three exponents; a quotient by 0 is 0 below 0's floor, as the definition has it
+# ---- the three exponents. No pair has b = 0 or c = 0; there docs/DECISIONS.md settles the answer (point 39).
 
 PAIRS = {
     (2, 2): (1, 1), (4, 4): (2, 2), (8, 8): (3, 3), (16, 16): (4, 4), (32, 32): (5, 5),

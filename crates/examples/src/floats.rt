@@ -77,22 +77,19 @@ fn made_line(wide: bool, negative: bool, value: Magnitude) {
     print::text(b"\n");
 }
 
-// The parts, s, and the float made of the parts.
+// s, and the float made of the parts.
+fn finite_line(wide: bool, negative: bool, value: Magnitude) {
+    print::text(b"s ");
+    print::signed(lexical_util::sci_exp(value).0);
+    print::text(b", ");
+    made_line(wide, negative, value);
+}
+
 fn print_parts(wide: bool, parts: Parts) {
     match parts {
         Parts::Special => print::text(b"special\n"),
-        Parts::Plain(value) => {
-            print::text(b"s ");
-            print::signed(lexical_util::sci_exp(value).0);
-            print::text(b", ");
-            made_line(wide, false, value);
-        }
-        Parts::Negative(value) => {
-            print::text(b"s ");
-            print::signed(lexical_util::sci_exp(value).0);
-            print::text(b", ");
-            made_line(wide, true, value);
-        }
+        Parts::Plain(value) => finite_line(wide, false, value),
+        Parts::Negative(value) => finite_line(wide, true, value),
     }
 }
 
