@@ -19,15 +19,11 @@ use Rattle.lexical_format.specs.declared.options.RoundMode.{RoundMode}
 use Rattle.lexical_format.specs.declared.options.RoundMode.the-variants.{Round, Truncate}
 use Rattle.lexical_util.proofs.PowerLaws.{size-pos}
 use Rattle.lexical_write_float.specs.Value.{normal, modulo}
+use Rattle.lexical_write_float.specs.Code.{Between}
 use Rattle.lexical_write_float.specs.Limit.{unitExponent, rounded, multipleOf, limited}
 use Rattle.lexical_util.proofs.DifferenceLaws.{nat-less, nat-more}
 use Rattle.lexical_write_float.proofs.Integers.{floor-modulo, times-below, move}
 use Rattle.lexical_write_float.proofs.ValueLaws.{is-normal, normal-shift, scale-normal}
-
--- ---- from -low to high
-abbrev pub Between : ℕ → ℕ → ℤ → Type 0
-Between least most (pos n) = n ≤ most
-Between least most (negsuc n) = n < least
 
 -- a natural number more
 between-add : (least most t : ℕ) (e : ℤ) → Between least most e → (t ≤ most) → ((n : ℕ) → e ≡ pos n → n + t ≤ most) → Between least most (e +ℤ pos t)

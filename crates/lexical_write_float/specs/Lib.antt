@@ -2,5 +2,6 @@ pub mod Value
 pub mod Limit
 pub mod Text
 pub mod Write
+pub mod Code
 pub mod Claims
 pub mod Examples
