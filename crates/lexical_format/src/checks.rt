@@ -69,8 +69,8 @@ fn or_absent(absent: i32, value: i32) -> i32
     if value == 0 { absent } else { value }
 }
 
-// Out of the range from least to most.
-fn outside(least: i32, most: i32, value: i32) -> bool
+// Out of the range from least to most: of a break in the check, and of s in a layout.
+pub fn outside(least: i32, most: i32, value: i32) -> bool
     ensures { λ r. ⌜ r ≡ outside least most value ⌝ }
 {
     value < least || value > most

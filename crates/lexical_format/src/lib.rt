@@ -8,6 +8,7 @@ pub use checks::ReadingCheck;
 pub use checks::WritingCheck;
 pub use checks::check;
 pub use checks::check_reading;
+pub use checks::outside;
 pub use format::NumberFormat;
 pub use format::Pair;
 pub use options::Options;

@@ -27,7 +27,8 @@ use Rattle.lexical_write_float.specs.Limit.{limited}
 use Rattle.lexical_write_float.specs.Text.{least, trim, layoutOf, digitsSoFar, text}
 use Rattle.lexical_write_float.specs.Value.{exactDigits}
 use Rattle.lexical_write_float.specs.Write.{limitedText, floatText, writeText}
-use Rattle.lexical_write_float.proofs.RangeLaws.{Ranged, fits-ranged, place-near}
+use Rattle.lexical_write_float.specs.Code.{Ranged}
+use Rattle.lexical_write_float.proofs.RangeLaws.{fits-ranged, place-near}
 use Rattle.lexical_write_float.proofs.WriteLaws.{longest-text}
 use Rattle.lexical_read_float.specs.Shape.{Tail, absent, Shape}
 use Rattle.lexical_read_float.specs.Parse.{withTail, shapeOf}

@@ -22,11 +22,11 @@ use Rattle.lexical_format.specs.declared.options.Options.{Options}
 use Rattle.lexical_format.proofs.FormatLaws.{Writable}
 use Rattle.lexical_write_float.specs.declared.layout.Layout.the-variants.{Scientific, Negative, Positive}
 use Rattle.lexical_write_float.specs.Value.{modulo, exactDigits}
-use Rattle.lexical_write_float.specs.Code.{Between}
+use Rattle.lexical_write_float.specs.Code.{Between, Ranged}
 use Rattle.lexical_write_float.specs.Text.{zeros, point, least, trim, isScientific, layoutOf, scientific, exponentSign, exponentText, negative, positive, laidOut, digitsSoFar, text}
 use Rattle.lexical_write_float.proofs.Integers.{modulo-lt}
 use Rattle.lexical_write_float.proofs.ValueLaws.{length-exact}
-use Rattle.lexical_write_float.proofs.RangeLaws.{Ranged, place-near}
+use Rattle.lexical_write_float.proofs.RangeLaws.{place-near}
 
 module _ (F : NumberFormat) (o : Options) (row : Pair) (W : Writable F o row) where
   -- ---- each layout, for a D of at most 64 digits

@@ -19,7 +19,7 @@ use Rattle.lexical_format.specs.declared.options.RoundMode.{RoundMode}
 use Rattle.lexical_format.specs.declared.options.RoundMode.the-variants.{Round, Truncate}
 use Rattle.lexical_util.proofs.PowerLaws.{size-pos}
 use Rattle.lexical_write_float.specs.Value.{normal, modulo}
-use Rattle.lexical_write_float.specs.Code.{Between}
+use Rattle.lexical_write_float.specs.Code.{Between, Ranged}
 use Rattle.lexical_write_float.specs.Limit.{unitExponent, rounded, multipleOf, limited}
 use Rattle.lexical_util.proofs.DifferenceLaws.{nat-less, nat-more}
 use Rattle.lexical_write_float.proofs.Integers.{floor-modulo, times-below, move}
@@ -33,11 +33,6 @@ between-add least most t (negsuc n) h k l = go (decLe (suc n) t)
     go : Dec (suc n ≤ t) → Between least most (negsuc n +ℤ pos t)
     go (yes g) = rw (le-ltb t (suc n) g) (omega arith)
     go (no g) = rw (lt-ltb t (suc n) (lt-of-not-le g)) (omega arith)
-
--- a value that may be written
-pub record Ranged (m : ℕ) (e : ℤ) : Type 0 where
-  pub few : m < 2 ^ 54
-  pub near : Between 1074 1024 (scale m e)
 
 -- ---- a float of either width
 -- m * 2 ^ k below 2 ^ t

@@ -1,9 +1,26 @@
 -- What the inner functions ask for and answer. The exported contracts cite none of it. Definitions only.
-use Prim.Native.Nat.{ℕ, _≤_, _<_}
+use Prim.Native.Nat.{ℕ, _+_, _^_, _≤_, _<_}
+use mathlib.Core.Path.{_≡_}
+use mathlib.Core.Bool.{Bool, cond}
+use mathlib.Core.List.{List, [], _∷_, _++_}
 use lib.IntN.{ℤ, pos, negsuc}
+use lib.ListN.{length, take, drop}
+use Rattle.lexical_util.specs.Answer.{done}
+use Rattle.lexical_util.specs.Num.{scale}
 use Rattle.lexical_util.specs.declared.num.Magnitude.{Magnitude}
-use Rattle.lexical_write_float.specs.Value.{Value}
+use Rattle.lexical_write_integer.specs.Digits.{numeral}
+use Rattle.lexical_format.specs.declared.checks.CheckedFormat.{CheckedFormat}
+use Rattle.lexical_format.specs.declared.format.Pair.{Pair}
+use Rattle.lexical_format.specs.declared.format.NumberFormat.{NumberFormat}
+use Rattle.lexical_format.specs.declared.options.Options.{Options}
+use Rattle.lexical_format.specs.Format.{pair, writingFormat, settled}
+use Rattle.lexical_write_float.specs.declared.plan.Digits.{Digits}
+use Rattle.lexical_write_float.specs.declared.plan.Plan.{Plan}
+use Rattle.lexical_write_float.specs.Value.{Value, normal}
+use Rattle.lexical_write_float.specs.Text.{zeros}
+use Rattle.lexical_write_float.specs.Write.{limitedText}
 
+-- ---- values
 -- the value that a magnitude stands for
 abbrev pub ofMagnitude : Magnitude → Value
 ofMagnitude v = record { m = v .mantissa; e = v .exponent }
@@ -12,3 +29,69 @@ ofMagnitude v = record { m = v .mantissa; e = v .exponent }
 abbrev pub Between : ℕ → ℕ → ℤ → Type 0
 Between least most (pos n) = n ≤ most
 Between least most (negsuc n) = n < least
+
+-- a value that may be written: a float's, or one that a digit limit made of it
+pub record Ranged (m : ℕ) (e : ℤ) : Type 0 where
+  pub few : m < 2 ^ 54
+  pub near : Between 1074 1024 (scale m e)
+
+-- ---- a format that passed the check with this answer
+pub record Passed (F : NumberFormat) (o : Options) (checked : CheckedFormat) : Type 0 where
+  pub row : Pair
+  pub is-row : writingFormat F o ≡ done row
+  pub is-settled : checked ≡ settled o row
+
+-- its two bit counts, which are all that a text takes of the pair's row
+abbrev pub rowOf : CheckedFormat → Pair
+rowOf checked = pair 0 0 (checked .b) (checked .c)
+
+-- ---- D, and a text by its plan
+-- D by the number that it spells
+abbrev pub digitsOf : Digits → List ℕ
+digitsOf D = numeral (2 ^ D .«bits_per_digit») (D .value)
+
+pub record Counted (D : Digits) : Type 0 where
+  pub some-bits : 0 < D .«bits_per_digit»
+  pub few-bits : D .«bits_per_digit» ≤ 5
+  pub count-is : D .count ≡ length (digitsOf D)
+  pub few : D .count ≤ 64
+
+-- what stands from the point on
+unfoldable pub fractionText : ℕ → Plan → List ℕ → List ℕ
+fractionText point P D = cond (P .point) ((point ∷ []) ++ (zeros (P .gap) ++ (drop (P .leading) D ++ zeros (P .padding)))) []
+
+unfoldable pub planText : ℕ → Plan → List ℕ → List ℕ
+planText point P D = take (P .leading) D ++ (zeros (P .filled) ++ fractionText point P D)
+
+-- numbers small enough for the sum that is the text's length
+pub record Small (count : ℕ) (P : Plan) : Type 0 where
+  pub leading-few : P .leading ≤ count
+  pub filled-few : P .filled ≤ 2000
+  pub gap-few : P .gap ≤ 2000
+  pub padding-few : P .padding ≤ 2000
+
+-- a plan of this text, for every D of so many digits
+pub record IsPlan (point count : ℕ) (text : List ℕ → List ℕ) (P : Plan) : Type 0 where
+  pub is : (D : List ℕ) → length D ≡ count → planText point P D ≡ text D
+  pub small : Small count P
+
+-- ---- an exponent in powers of the base, by its sign and its magnitude
+abbrev pub signText : Bool → Bool → List ℕ
+signText negative plus = cond negative (45 ∷ []) (cond plus (43 ∷ []) [])
+
+unfoldable pub powerText : ℕ → Bool → Bool → ℕ → ℕ → List ℕ
+powerText mark negative plus radix n = (mark ∷ []) ++ (signText negative plus ++ numeral radix n)
+
+-- ---- bytes put into a buffer
+-- a text stands in the bytes from a place on, and all else is as it was
+unfoldable pub put : List ℕ → ℕ → List ℕ → List ℕ
+put held at t = take at held ++ (t ++ drop (at + length t) held)
+
+-- after putting it: the next place, and what the bytes became
+pub record Puts (held : List ℕ) (at : ℕ) (t : List ℕ) (next : ℕ) (out : List ℕ) : Type 0 where
+  pub next-is : next ≡ at + length t
+  pub out-is : out ≡ put held at t
+
+-- ---- the text of a magnitude: of the float that has it
+abbrev pub magnitudeText : NumberFormat → Options → CheckedFormat → Magnitude → List ℕ
+magnitudeText F o checked v = let x = normal (v .mantissa) (v .exponent) in limitedText F o (rowOf checked) (x .m) (x .e)

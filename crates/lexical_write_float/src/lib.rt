@@ -1,4 +1,9 @@
 // Writing a float's text.
+mod binary;
+mod hex;
 pub mod layout;
+mod pieces;
+pub mod plan;
+mod shared;
 
 pub use layout::Layout;

@@ -1,0 +1,36 @@
+use Rattle.lexical_format.proofs.CheckLaws.{break-read}
+use Rattle.lexical_format.specs.Format.{outside}
+use mathlib.Core.Path.{ap}
+use Rattle.lexical_write_float.specs.Text.{isScientific}
+use mathlib.Core.Path.{refl, _∙_}
+use borrow.Author.Needs.{needs}
+use Rattle.lexical_write_float.proofs.shared.is_scientific.Statement.{statement}
+use Rattle.lexical_write_float.proofs.shared.is_scientific.Tie as tie
+use Rattle.lexical_write_float.proofs.shared.is_scientific.Reads as reads
+use Rattle.lexical_write_float.proofs.shared.is_scientific.Lts as lts
+use Rattle.lexical_format.proofs.outside.Reads as outside-reads
+
+-- src/shared.rt:31:9
+returns : tie.Need-returns
+unfolding isScientific
+returns c = λ o l h. rw (c .if1 .taken) refl
+
+-- src/shared.rt:34:9
+returns-2 : tie.Need-returns-2
+unfolding isScientific
+returns-2 c = λ o l h. rw (c .before .if1 .left, c .if2 .taken) refl
+
+-- src/shared.rt:36:5
+outside-requires : tie.Need-outside-requires
+outside-requires c κs = search needs
+
+-- src/shared.rt:27:1
+returns-3 : tie.Need-returns-3
+unfolding isScientific
+returns-3 c = λ o l h.
+    let a = c .before .before .before .before .before .before .args in
+    rw (c .before .before .before .before .before .if1 .left, c .before .before .before .before .if2 .left)
+    (c .outside .ensures ∙ rw (break-read (a .checked .«negative_exponent_break») (c .before .before .before .struct-told .given .1 .1 .0 .1), break-read (a .checked .«positive_exponent_break») (c .before .before .struct-told2 .given .1 .1 .1 .0 .1), break-read (a .s .0) (c .before .struct-told3 .given .0 .1), l, h) refl)
+
+pub is-scientific-spec : {M : Type 1} → statement M
+is-scientific-spec = tie.close (tie.spec returns returns-2 outside-requires returns-3)

@@ -1,0 +1,81 @@
+// Derived from `min_exact_digits`, `write_exponent_sign`, `write_exponent` and `write_float!` of lexical-write-float/src/shared.rs, changed: the layout is one answer, the zeros that are missing are counted instead of the digits that there are to be, and an exponent's length is known before it is written.
+ghost use mathlib.Core.Path.{_≡_};
+ghost use mathlib.Core.Bool.{true};
+ghost use Prim.Native.Nat.{ℕ, _+_, _-_, _≤_, _<_};
+ghost use lib.IntN.{ℤ};
+ghost use lib.ListN.{length};
+ghost use Rattle.lexical_util.specs.Digit.{isRadix};
+ghost use Rattle.lexical_write_float.specs.Text.{isScientific, layoutOf};
+ghost use Rattle.lexical_format.specs.declared.options.Options.{Options};
+ghost use Rattle.lexical_format.specs.Format.{lowBreak, highBreak};
+ghost use Rattle.lexical_write_float.specs.Code.{Puts, signText, powerText};
+use crate::layout::Layout;
+use crate::pieces::put_byte;
+use lexical_format::CheckedFormat;
+use lexical_format::NumberFormat;
+use lexical_util::BitExponent;
+
+// How many zeros fill `count` digits up to the least count.
+pub(crate) fn missing_digits(least: u32, count: usize) -> usize
+    ensures { λ r. ⌜ r ≡ least - count ⌝ }
+{
+    let wanted = least as usize;
+    if count < wanted { wanted - count } else { 0 }
+}
+
+// Scientific if not forbidden and (required, or s below the low break, or above the high one). The breaks are in bits, as s is.
+fn is_scientific(format: NumberFormat, checked: CheckedFormat, s: BitExponent) -> bool
+    ensures { λ r. ⌜ ((o : Options) → checked .«negative_exponent_break» ≡ lowBreak o → checked .«positive_exponent_break» ≡ highBreak o → r ≡ isScientific format o (s .0)) ⌝ }
+{
+    if format.no_exponent_notation {
+        return false;
+    }
+    if format.required_exponent_notation {
+        return true;
+    }
+    lexical_format::outside(
+        checked.negative_exponent_break,
+        checked.positive_exponent_break,
+        s.0,
+    )
+}
+
+// The layout of a text, in place of the macro `write_float!`.
+pub(crate) fn choose_layout(format: NumberFormat, checked: CheckedFormat, s: BitExponent) -> Layout
+    ensures { λ r. ⌜ ((o : Options) → checked .«negative_exponent_break» ≡ lowBreak o → checked .«positive_exponent_break» ≡ highBreak o → r ≡ layoutOf format o (s .0)) ⌝ }
+{
+    if is_scientific(format, checked, s) {
+        return Layout::Scientific;
+    }
+    let scale = s.0;
+    if scale < 0 {
+        return Layout::Negative;
+    }
+    Layout::Positive
+}
+
+// "-" if negative, "+" if that flag is set.
+fn write_exponent_sign(buffer: &mut [u8], at: usize, negative: bool, plus: bool) -> usize
+    requires { ⌜ at + length (signText negative plus) ≤ length (now buffer) ⌝ }
+    ensures { λ r. ⌜ Puts (now (buffer .entry)) at (signText negative plus) r (now (buffer .exit)) ⌝ }
+{
+    if negative {
+        return put_byte(buffer, at, b'-');
+    }
+    if plus {
+        return put_byte(buffer, at, b'+');
+    }
+    at
+}
+
+fn sign_length(negative: bool, plus: bool) -> usize
+    ensures { λ r. ⌜ (r ≡ length (signText negative plus)) × (r ≤ 1) ⌝ }
+{
+    if negative {
+        return 1;
+    }
+    if plus {
+        return 1;
+    }
+    0
+}
