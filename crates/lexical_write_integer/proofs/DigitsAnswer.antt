@@ -1,6 +1,6 @@
--- What the digits call answers and leaves in the lent bytes, in each of its three cases. Assumes nothing.
+-- What the digits calls answer and leave in the lent bytes, in each of their cases. Assumes nothing.
 use Prim.Native.Nat.{ℕ, _≤_, _<_}
-use mathlib.Core.Path.{_≡_, sym, _∙_}
+use mathlib.Core.Path.{_≡_, refl, sym, _∙_}
 use mathlib.Core.Bool.{true, false}
 use mathlib.Core.List.{List, _++_}
 use lib.ListN.{length, drop}
@@ -8,19 +8,36 @@ use Rattle.lexical_util.specs.Answer.{done, refused, written, held}
 use Rattle.lexical_util.specs.Digit.{isRadix}
 use Rattle.lexical_util.proofs.AnswerLaws.{text-fits, text-short}
 use Rattle.lexical_write_integer.specs.Digits.{digits, numeral}
-use Rattle.lexical_write_integer.specs.Write.{digitsText}
+use Rattle.lexical_write_integer.specs.Write.{digitsText, digitCount}
 use Rattle.lexical_write_integer.proofs.DigitsLaws.{length-numeral}
 
-module _ (x r n : ℕ) (out : List ℕ) (known : isRadix r ≡ true) (count : n ≡ length (digits r x)) where
+-- ---- how many
+pub count-known : (x r : ℕ) → isRadix r ≡ true → digitCount x r ≡ length (digits r x)
+unfolding digitCount
+count-known x r h = rw h
+
+pub count-decimal : (x : ℕ) → digitCount x 10 ≡ length (digits 10 x)
+unfolding isRadix
+count-decimal x = count-known x 10 refl
+
+pub count-unknown : (x r : ℕ) → isRadix r ≡ false → digitCount x r ≡ 0
+unfolding digitCount
+count-unknown x r h = rw h
+
+-- ---- which
+module _ (x r n : ℕ) (out : List ℕ) (known : isRadix r ≡ true) (count : n ≡ digitCount x r) where
+  long : length (numeral r x) ≡ n
+  long = length-numeral r x ∙ sym (count ∙ count-known x r known)
+
   asked : digitsText x r ≡ done (numeral r x)
   unfolding digitsText
   asked = rw known
 
   pub fits : n ≤ length out → (done n ≡ written (digitsText x r) out) × (numeral r x ++ drop n out ≡ held (digitsText x r) out)
-  fits h = let f = text-fits (numeral r x) out n (length-numeral r x ∙ sym count) h in rw asked (sym (f .0), sym (f .1))
+  fits h = let f = text-fits (numeral r x) out n long h in rw asked (sym (f .0), sym (f .1))
 
   pub short : length out < n → (refused 8 0 ≡ written (digitsText x r) out) × (out ≡ held (digitsText x r) out)
-  short h = let f = text-short (numeral r x) out n (length-numeral r x ∙ sym count) h in rw asked (sym (f .0), sym (f .1))
+  short h = let f = text-short (numeral r x) out n long h in rw asked (sym (f .0), sym (f .1))
 
 pub unknown : (x r : ℕ) (out : List ℕ) → isRadix r ≡ false → (refused 2 0 ≡ written (digitsText x r) out) × (out ≡ held (digitsText x r) out)
 unfolding digitsText

@@ -3,7 +3,7 @@ use mathlib.Core.Path.{sym, _∙_}
 use native.Mathlib.Omega.{arith}
 use borrow.Author.Needs.{needs}
 use denote.Ref.{now}
-use Rattle.lexical_write_integer.proofs.DigitsAnswer.{fits, short, unknown}
+use Rattle.lexical_write_integer.proofs.DigitsAnswer.{count-known, fits, short, unknown}
 use Rattle.lexical_write_integer.proofs.write.write_integer.Statement.{statement}
 use Rattle.lexical_write_integer.proofs.write.write_integer.Tie as tie
 
@@ -11,12 +11,14 @@ is-radix-requires : tie.Need-is-radix-requires
 is-radix-requires c κs = search needs
 
 digit-count-requires : tie.Need-digit-count-requires
-digit-count-requires c κs = sym (c .before .is-radix .ensures) ∙ c .if1 .taken
+digit-count-requires c κs = search needs
 
 write-digits-requires : tie.Need-write-digits-requires
 write-digits-requires c κs =
     let t = c .before .before .before in
-    (sym (t .before .is-radix .ensures) ∙ t .if1 .taken, c .before .before .digit-count .ensures, omega arith)
+    let a = t .before .before .before .args in
+    let k = sym (t .before .is-radix .ensures) ∙ t .if1 .taken in
+    (k, c .before .before .digit-count .ensures ∙ count-known (a .value) (a .radix) k, omega arith)
 
 same-length : tie.Need-same-length
 same-length c = search needs

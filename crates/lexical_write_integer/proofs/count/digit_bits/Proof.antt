@@ -1,8 +1,8 @@
--- `lexical_write_integer::digit_count::digit_bits` meets its contract: a radix that is none of the others is 32. Assumes nothing.
+-- `lexical_write_integer::count::digit_bits` meets its contract: a radix that is none of the others is 32. Assumes nothing.
 use borrow.Author.Needs.{needs}
 use Rattle.lexical_write_integer.proofs.CountLaws.{radix-last}
-use Rattle.lexical_write_integer.proofs.digit_count.digit_bits.Statement.{statement}
-use Rattle.lexical_write_integer.proofs.digit_count.digit_bits.Tie as tie
+use Rattle.lexical_write_integer.proofs.count.digit_bits.Statement.{statement}
+use Rattle.lexical_write_integer.proofs.count.digit_bits.Tie as tie
 
 returns : tie.Need-returns
 returns c = search needs

@@ -1,9 +1,9 @@
--- `lexical_write_integer::digit_count::digit_log` meets its contract. Assumes nothing.
+-- `lexical_write_integer::count::digit_log` meets its contract. Assumes nothing.
 use native.Mathlib.Omega.{arith}
 use borrow.Author.Needs.{needs}
 use Rattle.lexical_write_integer.proofs.CountLaws.{log-small, count-log}
-use Rattle.lexical_write_integer.proofs.digit_count.digit_log.Statement.{statement}
-use Rattle.lexical_write_integer.proofs.digit_count.digit_log.Tie as tie
+use Rattle.lexical_write_integer.proofs.count.digit_log.Statement.{statement}
+use Rattle.lexical_write_integer.proofs.count.digit_log.Tie as tie
 
 fast-log2-requires : tie.Need-fast-log2-requires
 fast-log2-requires c κs = search needs

@@ -6,6 +6,7 @@ ghost use lib.Ieee.{size};
 ghost use lib.ListN.{length};
 ghost use Rattle.lexical_util.specs.Digit.{isRadix};
 ghost use Rattle.lexical_write_integer.specs.Digits.{digits};
+ghost use Rattle.lexical_write_integer.specs.Write.{digitCount};
 use crate::decimal::decimal_count;
 use lexical_util::significant_bits;
 
@@ -39,14 +40,15 @@ pub(crate) fn digit_bits(radix: u32) -> u32
     }
 }
 
-// How many digits value has in any radix.
-pub(crate) fn digit_count(value: u64, radix: u32) -> usize
-    requires { ⌜ isRadix radix ≡ true ⌝ }
-    ensures { λ r. ⌜ r ≡ length (digits radix value) ⌝ }
+// How many digits value has in a radix, and 0 in a number that is none.
+pub fn digit_count(value: u64, radix: u32) -> usize
+    ensures { λ r. ⌜ r ≡ digitCount value radix ⌝ }
 {
     if radix == 10 {
         decimal_count(value)
-    } else {
+    } else if lexical_util::is_radix(radix) {
         digit_log(value, digit_bits(radix))
+    } else {
+        0
     }
 }
