@@ -7,9 +7,10 @@ use lib.ListN.{length, drop}
 use Rattle.lexical_util.specs.Answer.{done, refused, written, held}
 use Rattle.lexical_util.specs.Digit.{isRadix}
 use Rattle.lexical_util.proofs.AnswerLaws.{text-fits, text-short}
-use Rattle.lexical_write_integer.specs.Digits.{digits, numeral}
+use Rattle.lexical_util.proofs.RadixLaws.{radix-bounds}
+use Rattle.lexical_write_integer.specs.Digits.{digits, lastNumeral}
 use Rattle.lexical_write_integer.specs.Write.{digitsText, digitCount}
-use Rattle.lexical_write_integer.proofs.DigitsLaws.{length-numeral}
+use Rattle.lexical_write_integer.proofs.LastLaws.{length-last, numeral-last}
 
 -- ---- how many
 pub count-known : (x r : ℕ) → isRadix r ≡ true → digitCount x r ≡ length (digits r x)
@@ -26,18 +27,15 @@ count-unknown x r h = rw h
 
 -- ---- which
 module _ (x r n : ℕ) (out : List ℕ) (known : isRadix r ≡ true) (count : n ≡ digitCount x r) where
-  long : length (numeral r x) ≡ n
-  long = length-numeral r x ∙ sym (count ∙ count-known x r known)
-
-  asked : digitsText x r ≡ done (numeral r x)
+  asked : digitsText x r ≡ done (lastNumeral r n x)
   unfolding digitsText
-  asked = rw known
+  asked = rw (known, numeral-last r (radix-bounds r known .0) x, count, count-known x r known)
 
-  pub fits : n ≤ length out → (done n ≡ written (digitsText x r) out) × (numeral r x ++ drop n out ≡ held (digitsText x r) out)
-  fits h = let f = text-fits (numeral r x) out n long h in rw asked (sym (f .0), sym (f .1))
+  pub fits : n ≤ length out → (done n ≡ written (digitsText x r) out) × (lastNumeral r n x ++ drop n out ≡ held (digitsText x r) out)
+  fits h = let f = text-fits (lastNumeral r n x) out n (length-last r n x) h in rw asked (sym (f .0), sym (f .1))
 
   pub short : length out < n → (refused 8 0 ≡ written (digitsText x r) out) × (out ≡ held (digitsText x r) out)
-  short h = let f = text-short (numeral r x) out n long h in rw asked (sym (f .0), sym (f .1))
+  short h = let f = text-short (lastNumeral r n x) out n (length-last r n x) h in rw asked (sym (f .0), sym (f .1))
 
 pub unknown : (x r : ℕ) (out : List ℕ) → isRadix r ≡ false → (refused 2 0 ≡ written (digitsText x r) out) × (out ≡ held (digitsText x r) out)
 unfolding digitsText

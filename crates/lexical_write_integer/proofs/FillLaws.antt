@@ -1,5 +1,5 @@
--- Filling from the back, over the radix: one store, and the wanted bytes W, of which the numeral of v is not there yet. Assumes nothing.
-use Prim.Native.Nat.{ℕ, suc, _+_, _-_, _*_, _/_, _%_, _^_, _≤_, _<_}
+-- Filling from the back, over the radix: one store, and the wanted bytes W, of which the last digits of v are not there yet. Assumes nothing.
+use Prim.Native.Nat.{ℕ, zero, suc, _+_, _-_, _*_, _/_, _%_, _^_, _≤_, _<_}
 use mathlib.Core.Path.{_≡_, sym, _∙_}
 use mathlib.Core.List.{List, _∷_, _++_, append-assoc}
 use native.Mathlib.Nat.{lt-suc-self, one-mul, mod-eq-of-lt, mod-lt, lt-of-lt-of-le}
@@ -9,25 +9,26 @@ use lib.ListN.{length, drop, set, length-set}
 use lib.Pow.{pow-lt, pow-pos, pow-mono}
 use lib.Seq.{drop-cons, getD-set-same, drop-set-lt}
 use Rattle.lexical_util.specs.Digit.{digitByte}
-use Rattle.lexical_write_integer.specs.Digits.{numeral}
-use Rattle.lexical_write_integer.proofs.DigitsLaws.{numeral-lt, numeral-ge}
+use Rattle.lexical_write_integer.specs.Digits.{lastNumeral}
 
 drop-set-here : (l : List ℕ) (j d : ℕ) → j < length l → drop j (set l j d) ≡ d ∷ drop (suc j) l
 drop-set-here l j d h =
     drop-cons (set l j d) j 0 (rw length-set h)
     ∙ rw (getD-set-same l j d 0 h, drop-set-lt (suc j) l j d (lt-suc-self j))
 
--- the last digit of v is stored, and its quotient is left
-pub back-step : (r v : ℕ) (W out : List ℕ) (i d : ℕ) → 1 < r → r ≤ v → 0 < i → i ≤ length out → d ≡ digitByte (v % r)
-    → W ≡ numeral r v ++ drop i out → W ≡ numeral r (v / r) ++ drop (i - 1) (set out (i - 1) d)
-back-step r v W out i d hr h p q e w =
-    let s : suc (i - 1) ≡ i = omega arith in
-    rw (drop-set-here out (i - 1) d (omega arith), s, e) (w ∙ rw (numeral-ge r v hr h, append-assoc))
+-- the last of i digits of v is stored, and the others, which are its quotient's, are left
+pub back-step : (r v : ℕ) (W out : List ℕ) (i d : ℕ) → 0 < i → i ≤ length out → d ≡ digitByte (v % r)
+    → W ≡ lastNumeral r i v ++ drop i out → W ≡ lastNumeral r (i - 1) (v / r) ++ drop (i - 1) (set out (i - 1) d)
+unfolding lastNumeral
+back-step r v W out zero d p q e w = absurd (omega arith)
+back-step r v W out (suc i) d p q e w =
+    let s : suc i - 1 ≡ i = omega arith in
+    rw (s, drop-set-here out i d (omega arith), e) (w ∙ rw append-assoc)
 
--- the first digit is stored, and nothing is left
-pub back-end : (r v : ℕ) (W out : List ℕ) (i d : ℕ) → v < r → i ≡ 1 → 0 < length out → d ≡ digitByte v
-    → W ≡ numeral r v ++ drop i out → set out 0 d ≡ W
-back-end r v W out i d h o p e w = drop-set-here out 0 d p ∙ sym (w ∙ rw (numeral-lt r v h, o, e))
+-- no digit is left
+pub back-end : (r v : ℕ) (W out : List ℕ) (i : ℕ) → i ≡ 0 → W ≡ lastNumeral r i v ++ drop i out → out ≡ W
+unfolding lastNumeral
+back-end r v W out i z w = sym (w ∙ rw z)
 
 -- ---- radix 2 ^ b
 -- the code's shift is the radix

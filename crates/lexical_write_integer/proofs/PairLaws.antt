@@ -6,9 +6,8 @@ use native.Mathlib.Nat.{add-zero, zero-add, add-suc, suc-add, le-of-suc-le-suc, 
 use native.Mathlib.Omega.{arith}
 use lib.ListN.{length, getD, drop, set, length-set}
 use Rattle.lexical_util.specs.Digit.{digitByte}
-use Rattle.lexical_write_integer.specs.Digits.{digits, numeral}
+use Rattle.lexical_write_integer.specs.Digits.{lastNumeral}
 use Rattle.lexical_write_integer.specs.Table.{pairByte}
-use Rattle.lexical_write_integer.proofs.DigitsLaws.{count-ge}
 use Rattle.lexical_write_integer.proofs.FillLaws.{back-step}
 
 -- ---- a table computed from a rule has the rule's value at each entry
@@ -44,16 +43,10 @@ pair-low q =
     rw (e, h)
 
 -- ---- two digits at a time
-pub count-two : (v : ℕ) → 1024 ≤ v → length (digits 32 v) ≡ length (digits 32 (v / 1024)) + 2
-count-two v h =
-    let e : v / 32 / 32 ≡ v / 1024 = omega arith in
-    let b = rw e at (count-ge 32 (v / 32) (omega arith) (omega arith)) in
-    omega (arith, count-ge 32 v (omega arith) (omega arith))
-
 module _ (table : List ℕ) (rule : Pairs table) (v : ℕ) (W out : List ℕ) (i a b : ℕ)
     (at-low : a ≡ getD table (2 * (v % 1024) + 1) 0)
     (at-high : b ≡ getD table (2 * (v % 1024)) 0)
-    (left : W ≡ numeral 32 v ++ drop i out)
+    (left : W ≡ lastNumeral 32 i v ++ drop i out)
   where
     low : a ≡ digitByte (v % 32)
     low =
@@ -65,8 +58,8 @@ module _ (table : List ℕ) (rule : Pairs table) (v : ℕ) (W out : List ℕ) (i
         let e : v % 1024 / 32 ≡ v / 32 % 32 = omega arith in
         at-high ∙ rule .at (2 * (v % 1024)) (omega arith) ∙ pair-high (v % 1024) ∙ rw e
 
-    pub two-steps : 1024 ≤ v → 1 < i → i ≤ length out → W ≡ numeral 32 (v / 1024) ++ drop (i - 1 - 1) (set (set out (i - 1) a) (i - 1 - 1) b)
-    two-steps h p q =
+    pub two-steps : 1 < i → i ≤ length out → W ≡ lastNumeral 32 (i - 1 - 1) (v / 1024) ++ drop (i - 1 - 1) (set (set out (i - 1) a) (i - 1 - 1) b)
+    two-steps p q =
         let e : v / 32 / 32 ≡ v / 1024 = omega arith in
-        let s = back-step 32 v W out i a (omega arith) (omega arith) (omega arith) q low left in
-        rw e at (back-step 32 (v / 32) W (set out (i - 1) a) (i - 1) b (omega arith) (omega arith) (omega arith) (simp length-set (omega arith)) high s)
+        let s = back-step 32 v W out i a (omega arith) q low left in
+        rw e at (back-step 32 (v / 32) W (set out (i - 1) a) (i - 1) b (omega arith) (simp length-set (omega arith)) high s)

@@ -3,7 +3,7 @@ ghost use mathlib.Core.Path.{_≡_};
 ghost use mathlib.Core.List.{_++_};
 ghost use Prim.Native.Nat.{_≤_};
 ghost use lib.ListN.{length, drop};
-ghost use Rattle.lexical_write_integer.specs.Digits.{digits, numeral};
+ghost use Rattle.lexical_write_integer.specs.Digits.{digits, lastNumeral};
 use crate::table::digit_to_char;
 
 // How many decimal digits value has.
@@ -19,17 +19,16 @@ pub(crate) fn decimal_count(value: u64) -> usize
     count
 }
 
-// The decimal digits of value, of which there are count, at the front of the buffer, from the back.
+// The last count decimal digits of value, leading zeros included, at the front of the buffer, from the back.
 pub(crate) fn decimal(value: u64, count: usize, buffer: &mut [u8])
-    requires { ⌜ (count ≡ length (digits 10 value)) × (count ≤ length (now buffer)) ⌝ }
-    ensures { λ _. ⌜ now (buffer .exit) ≡ numeral 10 value ++ drop count (now (buffer .entry)) ⌝ }
+    requires { ⌜ count ≤ length (now buffer) ⌝ }
+    ensures { λ _. ⌜ now (buffer .exit) ≡ lastNumeral 10 count value ++ drop count (now (buffer .entry)) ⌝ }
 {
     let mut i = count;
     let mut v = value;
-    while 10 <= v {
+    while 0 < i {
         i -= 1;
         buffer[i] = digit_to_char((v % 10) as u8);
         v = v / 10;
     }
-    buffer[0] = digit_to_char(v as u8);
 }

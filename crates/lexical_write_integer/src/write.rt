@@ -6,7 +6,7 @@ ghost use Prim.Native.Nat.{_≤_};
 ghost use lib.ListN.{length, drop};
 ghost use Rattle.lexical_util.specs.Answer.{written, held, ofWritten};
 ghost use Rattle.lexical_util.specs.Digit.{isRadix};
-ghost use Rattle.lexical_write_integer.specs.Digits.{digits, numeral};
+ghost use Rattle.lexical_write_integer.specs.Digits.{lastNumeral};
 ghost use Rattle.lexical_write_integer.specs.Write.{digitsText};
 use crate::count::digit_bits;
 use crate::count::digit_count;
@@ -16,10 +16,10 @@ use crate::radix::radix_32;
 use lexical_util::Refusal;
 use lexical_util::Written;
 
-// The digits of value, of which there are count, by the loop of the radix.
+// The last count digits of value by the loop of the radix.
 fn write_digits(value: u64, base: u32, count: usize, buffer: &mut [u8])
-    requires { ⌜ (isRadix base ≡ true) × (count ≡ length (digits base value)) × (count ≤ length (now buffer)) ⌝ }
-    ensures { λ _. ⌜ now (buffer .exit) ≡ numeral base value ++ drop count (now (buffer .entry)) ⌝ }
+    requires { ⌜ (isRadix base ≡ true) × (count ≤ length (now buffer)) ⌝ }
+    ensures { λ _. ⌜ now (buffer .exit) ≡ lastNumeral base count value ++ drop count (now (buffer .entry)) ⌝ }
 {
     if base == 10 {
         decimal(value, count, buffer);

@@ -4,27 +4,25 @@ use mathlib.Core.Path.{_≡_, refl}
 use mathlib.Core.List.{_++_}
 use native.Mathlib.Omega.{arith}
 use lib.ListN.{length, drop, length-set}
-use Rattle.lexical_write_integer.specs.Digits.{digits, numeral}
-use Rattle.lexical_write_integer.proofs.DigitsLaws.{count-lt, count-ge, count-pos}
+use Rattle.lexical_write_integer.specs.Digits.{lastNumeral}
 use Rattle.lexical_write_integer.proofs.FillLaws.{back-step, back-end}
 use Rattle.lexical_write_integer.proofs.decimal.decimal.Statement.{statement}
 use Rattle.lexical_write_integer.proofs.decimal.decimal.Tie as tie
 
 abbrev Inv-loop : tie.InvT-loop
 Inv-loop value count buffer₀ i₀ v₀ buffer i v =
-    (length (digits 10 v) ≡ i)
-    × (numeral 10 value ++ drop count buffer₀ ≡ numeral 10 v ++ drop i buffer)
+    (lastNumeral 10 count value ++ drop count buffer₀ ≡ lastNumeral 10 i v ++ drop i buffer)
     × (length buffer ≡ length buffer₀)
     × (i ≤ count)
 
 abbrev μ-loop : tie.MeasureT-loop
-μ-loop value count buffer₀ i₀ v₀ buffer i v = v
+μ-loop value count buffer₀ i₀ v₀ buffer i v = i
 
 loop-holds : tie.Need-loop-holds Inv-loop μ-loop
-loop-holds c = (omega arith, refl, refl, omega arith)
+loop-holds c = (refl, refl, omega arith)
 
 sub-i : tie.Need-sub-i Inv-loop μ-loop
-sub-i c = omega (arith, count-pos 10 (omega arith) (c .before .loop .v))
+sub-i c = omega arith
 
 cast-digit-to-char : tie.Need-cast-digit-to-char Inv-loop μ-loop
 cast-digit-to-char c = omega arith
@@ -33,38 +31,24 @@ digit-to-char-requires : tie.Need-digit-to-char-requires Inv-loop μ-loop
 digit-to-char-requires c κs = omega arith
 
 slice-write-buffer : tie.Need-slice-write-buffer Inv-loop μ-loop
-slice-write-buffer c = omega (arith, count-pos 10 (omega arith) (c .before .before .loop .v))
+slice-write-buffer c = omega arith
 
 loop-less : tie.Need-loop-less Inv-loop μ-loop
 loop-less c = omega arith
 
 loop-again : tie.Need-loop-again Inv-loop μ-loop
 loop-again c =
-    let l = c .before .before .loop in
-    let p = count-pos 10 (omega arith) (l .v) in (
-      omega (arith, count-ge 10 (l .v) (omega arith) (omega arith)),
-      back-step 10 (l .v) _ (l .buffer) (l .i) _ (omega arith) (omega arith) (omega arith) (omega arith) (c .digit-to-char .ensures) (l .inv .1),
-      simp length-set (l .inv .2),
+    let l = c .before .before .loop in (
+      back-step 10 (l .v) _ (l .buffer) (l .i) _ (omega arith) (omega arith) (c .digit-to-char .ensures) (l .inv .0),
+      simp length-set (l .inv .1),
       omega arith,
     )
 
-cast-digit-to-char-2 : tie.Need-cast-digit-to-char-2 Inv-loop μ-loop
-cast-digit-to-char-2 c = omega arith
-
-digit-to-char-requires-2 : tie.Need-digit-to-char-requires-2 Inv-loop μ-loop
-digit-to-char-requires-2 c κs = omega arith
-
-slice-write-buffer-2 : tie.Need-slice-write-buffer-2 Inv-loop μ-loop
-slice-write-buffer-2 c = omega (arith, count-pos 10 (omega arith) (c .before .before .loop .v))
-
 same-length : tie.Need-same-length Inv-loop μ-loop
-same-length c = simp length-set (c .before .before .loop .inv .2)
+same-length c = c .before .loop .inv .1
 
 returns : tie.Need-returns Inv-loop μ-loop
-returns c =
-    let l = c .before .before .loop in
-    let p = count-lt 10 (l .v) (omega arith) in
-    back-end 10 (l .v) _ (l .buffer) (l .i) _ (omega arith) (omega arith) (omega arith) (c .digit-to-char2 .ensures) (l .inv .1)
+returns c = let l = c .before .loop in back-end 10 (l .v) _ (l .buffer) (l .i) (omega arith) (l .inv .0)
 
 pub decimal-spec : {M : Type 1} → statement M
 decimal-spec =
@@ -79,8 +63,5 @@ decimal-spec =
     slice-write-buffer
     loop-less
     loop-again
-    cast-digit-to-char-2
-    digit-to-char-requires-2
-    slice-write-buffer-2
     same-length
     returns)

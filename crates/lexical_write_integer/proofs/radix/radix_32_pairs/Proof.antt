@@ -1,43 +1,37 @@
 -- `lexical_write_integer::radix::radix_32_pairs` meets its contract: the digits left and the bytes stored are the whole, and the table follows its rule.
 -- The rule is proved of all its entries at once, where the loop begins: antt computes them from the rule, and compares. Assumes nothing.
-use Prim.Native.Nat.{_/_, _≤_, _<_}
+use Prim.Native.Nat.{_≤_}
 use mathlib.Core.Path.{_≡_, refl, sym, _∙_}
 use mathlib.Core.List.{_++_}
 use native.Mathlib.Omega.{arith}
 use borrow.Author.Needs.{needs}
 use lib.ListN.{length, drop, length-set}
 use Rattle.lexical_util.specs.Digit.{digitByte}
-use Rattle.lexical_write_integer.specs.Digits.{digits, numeral}
+use Rattle.lexical_write_integer.specs.Digits.{lastNumeral}
 use Rattle.lexical_write_integer.specs.Table.{pairByte}
-use Rattle.lexical_write_integer.proofs.DigitsLaws.{count-pos}
-use Rattle.lexical_write_integer.proofs.PairLaws.{Pairs, tab-at, count-two, two-steps}
+use Rattle.lexical_write_integer.proofs.PairLaws.{Pairs, tab-at, two-steps}
 use Rattle.lexical_write_integer.proofs.radix.radix_32_pairs.Statement.{statement}
 use Rattle.lexical_write_integer.proofs.radix.radix_32_pairs.Tie as tie
 
 abbrev Inv-loop : tie.InvT-loop
 Inv-loop value count buffer₀ table i₀ v₀ buffer i v =
-    (length (digits 32 v) ≡ i)
-    × (numeral 32 value ++ drop count buffer₀ ≡ numeral 32 v ++ drop i buffer)
+    (lastNumeral 32 count value ++ drop count buffer₀ ≡ lastNumeral 32 i v ++ drop i buffer)
     × (length buffer ≡ length buffer₀)
     × (i ≤ count)
     × Pairs table
 
 abbrev μ-loop : tie.MeasureT-loop
-μ-loop value count buffer₀ table i₀ v₀ buffer i v = v
-
--- two digits are left to store
-two : (c : tie.In-loop Inv-loop μ-loop) → 1 < c .before .loop .i
-two c = omega (arith, count-two (c .before .loop .v) (omega arith), count-pos 32 (omega arith) (c .before .loop .v / 1024))
+μ-loop value count buffer₀ table i₀ v₀ buffer i v = i
 
 loop-holds : tie.Need-loop-holds Inv-loop μ-loop
 unfolding pairByte digitByte
-loop-holds c = (omega arith, refl, refl, omega arith, record { at = λ k h. tab-at pairByte 2048 k h })
+loop-holds c = (refl, refl, omega arith, record { at = λ k h. tab-at pairByte 2048 k h })
 
 last-pair-requires : tie.Need-last-pair-requires Inv-loop μ-loop
 last-pair-requires c κs = search needs
 
 sub-i : tie.Need-sub-i Inv-loop μ-loop
-sub-i c = omega (arith, two (c .before))
+sub-i c = omega arith
 
 mul-table-byte : tie.Need-mul-table-byte Inv-loop μ-loop
 mul-table-byte c = omega arith
@@ -49,10 +43,10 @@ table-byte-requires : tie.Need-table-byte-requires Inv-loop μ-loop
 table-byte-requires c κs = omega arith
 
 slice-write-buffer : tie.Need-slice-write-buffer Inv-loop μ-loop
-slice-write-buffer c = omega (arith, two (c .before .before))
+slice-write-buffer c = omega arith
 
 sub-i-2 : tie.Need-sub-i-2 Inv-loop μ-loop
-sub-i-2 c = omega (arith, two (c .before .before))
+sub-i-2 c = omega arith
 
 mul-table-byte-2 : tie.Need-mul-table-byte-2 Inv-loop μ-loop
 mul-table-byte-2 c = omega arith
@@ -61,7 +55,7 @@ table-byte-requires-2 : tie.Need-table-byte-requires-2 Inv-loop μ-loop
 table-byte-requires-2 c κs = omega arith
 
 slice-write-buffer-2 : tie.Need-slice-write-buffer-2 Inv-loop μ-loop
-slice-write-buffer-2 c = simp length-set (omega (arith, two (c .before .before .before)))
+slice-write-buffer-2 c = simp length-set (omega arith)
 
 loop-less : tie.Need-loop-less Inv-loop μ-loop
 loop-less c = omega arith
@@ -69,23 +63,21 @@ loop-less c = omega arith
 loop-again : tie.Need-loop-again Inv-loop μ-loop
 loop-again c =
     let l = c .before .before .before .before .loop in
-    let t = two (c .before .before .before) in
     let p = c .before .before .last-pair .ensures in (
-      omega (arith, count-two (l .v) (omega arith)),
-      two-steps _ (l .inv .4) (l .v) _ (l .buffer) (l .i) _ _ (rw p at (c .before .table-byte .ensures)) (rw p at (c .table-byte2 .ensures)) (l .inv .1) (omega arith) t (omega arith),
-      simp length-set (l .inv .2),
+      two-steps _ (l .inv .3) (l .v) _ (l .buffer) (l .i) _ _ (rw p at (c .before .table-byte .ensures)) (rw p at (c .table-byte2 .ensures)) (l .inv .0) (omega arith) (omega arith),
+      simp length-set (l .inv .1),
       omega arith,
-      l .inv .4,
+      l .inv .3,
     )
 
 radix-requires : tie.Need-radix-requires Inv-loop μ-loop
-radix-requires c κs = let l = c .before .before .loop in (omega arith, omega arith, sym (l .inv .0), omega arith)
+radix-requires c κs = (omega arith, omega arith)
 
 same-length : tie.Need-same-length Inv-loop μ-loop
 same-length c = search needs
 
 returns : tie.Need-returns Inv-loop μ-loop
-returns c = c .before .before .radix .ensures ∙ sym (c .before .before .before .before .before .loop .inv .1)
+returns c = c .before .before .radix .ensures ∙ sym (c .before .before .before .before .before .loop .inv .0)
 
 pub radix-32-pairs-spec : {M : Type 1} → statement M
 radix-32-pairs-spec =

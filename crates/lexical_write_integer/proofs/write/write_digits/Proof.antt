@@ -6,18 +6,16 @@ use Rattle.lexical_write_integer.proofs.write.write_digits.Statement.{s
 use Rattle.lexical_write_integer.proofs.write.write_digits.Tie as tie
 
 decimal-requires : tie.Need-decimal-requires
-decimal-requires c κs = (rw (c .before .if1 .taken) at (c .before .before .before .pre .1), omega arith)
+decimal-requires c κs = omega arith
 
 radix-32-requires : tie.Need-radix-32-requires
-radix-32-requires c κs = (rw (c .before .if2 .taken) at (c .before .before .before .before .pre .1), omega arith)
+radix-32-requires c κs = omega arith
 
 digit-bits-requires : tie.Need-digit-bits-requires
 digit-bits-requires c κs = search needs
 
 radix-requires : tie.Need-radix-requires
-radix-requires c κs =
-    let e = c .before .digit-bits .ensures in
-    (e .1, e .2, rw (e .0) (c .before .before .before .before .before .pre .1), omega arith)
+radix-requires c κs = (omega arith, omega arith)
 
 same-length : tie.Need-same-length
 same-length c = search needs

@@ -3,7 +3,7 @@ use mathlib.Core.Path.{sym, _∙_}
 use native.Mathlib.Omega.{arith}
 use borrow.Author.Needs.{needs}
 use denote.Ref.{now}
-use Rattle.lexical_write_integer.proofs.DigitsAnswer.{count-known, fits, short, unknown}
+use Rattle.lexical_write_integer.proofs.DigitsAnswer.{fits, short, unknown}
 use Rattle.lexical_write_integer.proofs.write.write_integer.Statement.{statement}
 use Rattle.lexical_write_integer.proofs.write.write_integer.Tie as tie
 
@@ -16,9 +16,7 @@ digit-count-requires c κs = search needs
 write-digits-requires : tie.Need-write-digits-requires
 write-digits-requires c κs =
     let t = c .before .before .before in
-    let a = t .before .before .before .args in
-    let k = sym (t .before .is-radix .ensures) ∙ t .if1 .taken in
-    (k, c .before .before .digit-count .ensures ∙ count-known (a .value) (a .radix) k, omega arith)
+    (sym (t .before .is-radix .ensures) ∙ t .if1 .taken, omega arith)
 
 same-length : tie.Need-same-length
 same-length c = search needs
