@@ -27,6 +27,7 @@ use Rattle.lexical_write_float.specs.Text.{zeros, point, least, trim, is
 use Rattle.lexical_write_float.proofs.Integers.{modulo-lt}
 use Rattle.lexical_write_float.proofs.ValueLaws.{length-exact}
 use Rattle.lexical_write_float.proofs.RangeLaws.{place-near}
+use Rattle.lexical_write_float.proofs.PowerLaws.{few-digits}
 
 module _ (F : NumberFormat) (o : Options) (row : Pair) (W : Writable F o row) where
   -- ---- each layout, for a D of at most 64 digits
@@ -72,11 +73,9 @@ module _ (F : NumberFormat) (o : Options) (row : Pair) (W : Writable F o row) wh
   unfolding exponentText
   exponent-length p h =
       let R = W .reads in
-      let q = radix-bounds (F .«exponent_radix») (R .power) in
       let x : natAbs p * row .b ≤ 1074 * 5 = mul-le-mul h (R .pair .few-bits) in
       let d : natAbs p * row .b / row .c < 8192 = omega (arith, div-le-self (natAbs p * row .b) (row .c)) in
-      let n = count-le (F .«exponent_radix») (q .0) 12 (natAbs p * row .b / row .c) (lt-of-lt-of-le d (pow-le-pow-left (q .0) 13)) in
-      simp length-append (omega (arith, sign-length p, length-numeral (F .«exponent_radix») (natAbs p * row .b / row .c)))
+      simp length-append (omega (arith, sign-length p, few-digits (F .«exponent_radix») (natAbs p * row .b / row .c) (R .power) d))
 
   -- ---- the whole text
   laid-length : (D : List ℕ) (soFar : ℕ) (s : ℤ) → length D ≤ 64 → Between 1074 1024 s → length (laidOut F o row D (place (row .b) s) soFar (layoutOf F o s)) ≤ 2275

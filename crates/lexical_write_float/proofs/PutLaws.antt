@@ -1,12 +1,17 @@
 -- The laws of `put` and `Puts`: puts, each where the one before it ended, are one put of the texts joined. Assumes nothing.
 use Prim.Native.Nat.{ℕ, suc, _+_, _-_, _≤_, _<_}
 use mathlib.Core.Path.{_≡_, refl, sym, ap, _∙_}
+use mathlib.Core.Bool.{true}
 use mathlib.Core.List.{List, [], _∷_, _++_, append-assoc, append-nil}
 use native.Mathlib.Nat.{add-zero, zero-add, add-assoc, add-suc, add-sub-of-le}
 use native.Mathlib.Numerals.{add-one}
 use native.Mathlib.Omega.{arith}
+use borrow.Author.Tests.{le-leb, lt-leb}
+use lib.Dec.{leb}
 use lib.ListN.{length, take, drop, set, getD, length-append, length-drop, take-append-drop}
 use lib.Seq.{set-split, drop-cons, set-at, length-take-le, take-at, drop-append-add, drop-drop, drop-length, take-all}
+use Rattle.lexical_util.specs.Answer.{Answer, done, refused, written, held}
+use Rattle.lexical_util.proofs.AnswerLaws.{refused-done, done-same}
 use Rattle.lexical_write_float.specs.Code.{put, Puts}
 
 -- nothing put
@@ -65,3 +70,40 @@ part-put d t l at n h e w =
 pub put-front : (d t : List ℕ) → put d 0 t ≡ t ++ drop (length t) d
 unfolding put
 put-front d t = rw zero-add refl
+
+-- ---- a call that was lent the part from a place on, and enough of it for its text
+room : (t d : List ℕ) → length t ≤ length d → leb (length t) (length d) ≡ true
+room t d h = le-leb (length t) (length d) h
+
+module _ (a : Answer (List ℕ)) (t d : List ℕ) (at : ℕ) (e : a ≡ done t) (h : at + length t ≤ length d) where
+  abbrev part : List ℕ
+  part = take (length d - at) (drop at d)
+
+  enough : length t ≤ length part
+  enough = let z : length part ≡ length d - at = length-take-le (length d - at) (drop at d) (simp length-drop (omega arith)) in omega (arith, h)
+
+  pub part-count : (n : ℕ) → done n ≡ written a part → n ≡ length t
+  part-count n w = done-same n (length t) (w ∙ rw (e, room t part enough) refl)
+
+  pub part-puts : (l : List ℕ) (n : ℕ) → done n ≡ written a part → l ≡ held a part → Puts d at t (at + n) (take at d ++ (l ++ drop (length d - at) (drop at d)))
+  part-puts l n w k =
+      let q = part-count n w in
+      record { next-is = ap (λ (i : ℕ). at + i) q; out-is = part-put d t l at n (omega (arith, h)) q (k ∙ rw (e, room t part enough, q) refl) }
+
+  -- it is not refused
+  pub part-refused : (n p : ℕ) → refused n p ≡ written a part → ⊥
+  part-refused n p w = refused-done n p (length t) (w ∙ rw (e, room t part enough) refl)
+
+-- ---- a text put at the front
+pub answered : (t d : List ℕ) → length t ≤ length d → done (length t) ≡ written (done t) d
+answered t d h = rw (room t d h) refl
+
+pub kept : (t d out : List ℕ) → length t ≤ length d → out ≡ put d 0 t → out ≡ held (done t) d
+kept t d out h e = e ∙ put-front d t ∙ rw (room t d h) refl
+
+-- no room
+pub short : (t d : List ℕ) → length d < length t → refused 8 0 ≡ written (done t) d
+short t d h = rw (lt-leb (length t) (length d) h) refl
+
+pub short-held : (t d : List ℕ) → length d < length t → d ≡ held (done t) d
+short-held t d h = rw (lt-leb (length t) (length d) h) refl

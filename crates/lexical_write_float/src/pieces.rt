@@ -1,9 +1,14 @@
 // Pieces of a text, put into a buffer from a place on. Each answers the next place: the Rust's cursor behind `&mut` is a number handed back.
+ghost use mathlib.Core.Path.{_≡_};
+ghost use mathlib.Core.Bool.{true};
 ghost use mathlib.Core.List.{[], _∷_};
 ghost use Prim.Native.Nat.{_+_, _<_, _≤_};
 ghost use lib.ListN.{length};
+ghost use Rattle.lexical_util.specs.Digit.{isRadix};
+ghost use Rattle.lexical_write_integer.specs.Digits.{numeral};
 ghost use Rattle.lexical_write_float.specs.Text.{zeros};
 ghost use Rattle.lexical_write_float.specs.Code.{Puts};
+use lexical_util::Written;
 
 pub(crate) fn put_byte(buffer: &mut [u8], at: usize, byte: u8) -> usize
     requires { ⌜ at + 1 ≤ length (now buffer) ⌝ }
@@ -23,4 +28,16 @@ pub(crate) fn put_zeros(buffer: &mut [u8], at: usize, count: usize) -> usize
         done += 1;
     }
     at + count
+}
+
+// The digits of value in the radix.
+pub(crate) fn put_integer(buffer: &mut [u8], at: usize, value: u64, radix: u32) -> usize
+    requires { ⌜ (isRadix radix ≡ true) × (at + length (numeral radix value) ≤ length (now buffer)) ⌝ }
+    ensures { λ r. ⌜ Puts (now (buffer .entry)) at (numeral radix value) r (now (buffer .exit)) ⌝ }
+{
+    let written = lexical_write_integer::write_integer(value, radix, &mut buffer[at..]);
+    match written {
+        Written::Length(count) => at + count,
+        Written::Refused(_) => at,
+    }
 }

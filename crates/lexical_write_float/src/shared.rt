@@ -11,8 +11,10 @@ ghost use Rattle.lexical_format.specs.Format.{lowBreak, highBreak};
 ghost use Rattle.lexical_write_float.specs.Code.{Puts, signText, powerText};
 use crate::layout::Layout;
 use crate::pieces::put_byte;
+use crate::pieces::put_integer;
 use lexical_format::CheckedFormat;
 use lexical_format::NumberFormat;
+use lexical_util::BaseExponent;
 use lexical_util::BitExponent;
 
 // How many zeros fill `count` digits up to the least count.
@@ -78,4 +80,30 @@ fn sign_length(negative: bool, plus: bool) -> usize
         return 1;
     }
     0
+}
+
+// The length of an exponent's text, whatever the mark.
+pub(crate) fn exponent_length(exponent: BaseExponent, plus: bool, radix: u32) -> usize
+    requires { ⌜ (isRadix radix ≡ true) × (exponent .1 < 8192) ⌝ }
+    ensures { λ r. ⌜ ((mark : ℕ) → r ≡ length (powerText mark (exponent .0) plus radix (exponent .1))) × (r ≤ 20) ⌝ }
+{
+    let sign = sign_length(exponent.0, plus);
+    1 + sign + lexical_write_integer::digit_count(exponent.1, radix)
+}
+
+// Mark, sign, and the magnitude in the exponent's radix.
+pub(crate) fn write_exponent(
+    buffer: &mut [u8],
+    at: usize,
+    mark: u8,
+    exponent: BaseExponent,
+    plus: bool,
+    radix: u32,
+) -> usize
+    requires { ⌜ (isRadix radix ≡ true) × (at + length (powerText mark (exponent .0) plus radix (exponent .1)) ≤ length (now buffer)) ⌝ }
+    ensures { λ r. ⌜ Puts (now (buffer .entry)) at (powerText mark (exponent .0) plus radix (exponent .1)) r (now (buffer .exit)) ⌝ }
+{
+    let sign = put_byte(buffer, at, mark);
+    let magnitude = write_exponent_sign(buffer, sign, exponent.0, plus);
+    put_integer(buffer, magnitude, exponent.1, radix)
 }

@@ -1,0 +1,41 @@
+-- The text of an exponent by its sign and its magnitude: its length, and that it is the text of an exponent in document 01's sense. Assumes nothing.
+use Prim.Native.Nat.{ℕ, _+_, _*_, _/_, _^_, _≤_, _<_}
+use mathlib.Core.Path.{_≡_, refl, sym, _∙_}
+use mathlib.Core.Bool.{Bool, true}
+use mathlib.Core.List.{List}
+use native.Mathlib.Nat.{lt-of-lt-of-le, pow-le-pow-left}
+use native.Mathlib.Omega.{arith}
+use lib.IntN.{ℤ, pos, negsuc}
+use lib.ListN.{length, length-append}
+use Rattle.lexical_util.specs.Digit.{isRadix}
+use Rattle.lexical_util.specs.Num.{isNegative, power}
+use Rattle.lexical_util.proofs.RadixLaws.{radix-bounds}
+use Rattle.lexical_write_integer.specs.Digits.{digits, numeral}
+use Rattle.lexical_write_integer.specs.Write.{digitCount}
+use Rattle.lexical_write_integer.proofs.DigitsLaws.{count-le, length-numeral}
+use Rattle.lexical_format.specs.declared.format.Pair.{Pair}
+use Rattle.lexical_format.specs.declared.format.NumberFormat.{NumberFormat}
+use Rattle.lexical_format.specs.declared.options.Options.{Options}
+use Rattle.lexical_write_float.specs.Text.{exponentSign, exponentText}
+use Rattle.lexical_write_float.specs.Code.{signText, powerText}
+
+-- a magnitude below 2 ^ 13 has at most 13 digits in any radix
+pub few-digits : (radix n : ℕ) → isRadix radix ≡ true → n < 8192 → length (numeral radix n) ≤ 13
+few-digits radix n R h =
+    let q = radix-bounds radix R in
+    omega (arith, length-numeral radix n, count-le radix (q .0) 12 n (lt-of-lt-of-le h (pow-le-pow-left (q .0) 13)))
+
+pub count-is : (radix n : ℕ) → isRadix radix ≡ true → digitCount n radix ≡ length (numeral radix n)
+unfolding digitCount
+count-is radix n R = rw R (sym (length-numeral radix n))
+
+pub power-length : (mark : ℕ) (negative plus : Bool) (radix n : ℕ) → length (powerText mark negative plus radix n) ≡ 1 + length (signText negative plus) + length (numeral radix n)
+unfolding powerText
+power-length mark negative plus radix n = simp length-append (omega arith)
+
+-- the sign and the magnitude of p * b / c
+pub power-is : (F : NumberFormat) (o : Options) (row : Pair) (p : ℤ)
+    → powerText (o .exponent) (isNegative p) (F .«required_exponent_sign») (F .«exponent_radix») (power (row .b) (row .c) p) ≡ exponentText F o row p
+unfolding powerText exponentText
+power-is F o row (pos n) = refl
+power-is F o row (negsuc n) = refl
