@@ -21,6 +21,9 @@ pub count-log : (b x : ℕ) → 0 < b → (size x - 1) / b + 1 ≡ length (digit
 count-log b zero hb = rw (size-zero, zero-div, count-lt (2 ^ b) 0 (pow-pos b))
 count-log b (suc x) hb = omega (arith, count-bits b (suc x) hb (omega arith))
 
+pub count-small : (b x : ℕ) → 0 < b → x < 2 ^ 64 → length (digits (2 ^ b) x) ≤ 64
+count-small b x hb h = omega (arith, count-log b x hb, log-small b x h)
+
 pub radix-last : (r : ℕ) → isRadix r ≡ true → (r ≡ 2 → ⊥) → (r ≡ 4 → ⊥) → (r ≡ 8 → ⊥) → (r ≡ 10 → ⊥) → (r ≡ 16 → ⊥) → r ≡ 32
 unfolding isRadix
 radix-last r h h2 h4 h8 h10 h16 = eqb-true r 32 (rw (ne-eqb r 2 h2, ne-eqb r 4 h4, ne-eqb r 8 h8, ne-eqb r 10 h10, ne-eqb r 16 h16) at h)

@@ -1,7 +1,9 @@
 pub mod DigitsAnswer
+pub mod MantissaAnswer
 pub mod CountLaws
 pub mod DigitsLaws
 pub mod LastLaws
+pub mod RunLaws
 pub mod FillLaws
 pub mod PairLaws
 pub mod DigitsClaims

@@ -1,9 +1,11 @@
 // The digits of an integer in radix 2, 4, 8, 10, 16 or 32.
 mod count;
 mod decimal;
+mod mantissa;
 mod radix;
 mod table;
 mod write;
 
 pub use count::digit_count;
+pub use mantissa::write_mantissa;
 pub use write::write_integer;
