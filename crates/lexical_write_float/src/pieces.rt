@@ -6,8 +6,10 @@ ghost use Prim.Native.Nat.{_+_, _<_, _≤_};
 ghost use lib.ListN.{length};
 ghost use Rattle.lexical_util.specs.Digit.{isRadix};
 ghost use Rattle.lexical_write_integer.specs.Digits.{numeral};
+ghost use Rattle.lexical_write_integer.specs.Write.{run};
 ghost use Rattle.lexical_write_float.specs.Text.{zeros};
-ghost use Rattle.lexical_write_float.specs.Code.{Puts};
+ghost use Rattle.lexical_write_float.specs.Code.{Puts, Counted, digitsOf};
+use crate::plan::Digits;
 use lexical_util::Written;
 
 pub(crate) fn put_byte(buffer: &mut [u8], at: usize, byte: u8) -> usize
@@ -36,6 +38,30 @@ pub(crate) fn put_integer(buffer: &mut [u8], at: usize, value: u64, radix: u32) 
     ensures { λ r. ⌜ Puts (now (buffer .entry)) at (numeral radix value) r (now (buffer .exit)) ⌝ }
 {
     let written = lexical_write_integer::write_integer(value, radix, &mut buffer[at..]);
+    match written {
+        Written::Length(count) => at + count,
+        Written::Refused(_) => at,
+    }
+}
+
+// The digits of D from one place up to another.
+pub(crate) fn put_digits(
+    buffer: &mut [u8],
+    at: usize,
+    digits: Digits,
+    from: usize,
+    to: usize,
+) -> usize
+    requires { ⌜ Counted digits × (at + length (run from to (digitsOf digits)) ≤ length (now buffer)) ⌝ }
+    ensures { λ r. ⌜ Puts (now (buffer .entry)) at (run from to (digitsOf digits)) r (now (buffer .exit)) ⌝ }
+{
+    let written = lexical_write_integer::write_mantissa(
+        digits.value,
+        digits.bits_per_digit,
+        from,
+        to,
+        &mut buffer[at..],
+    );
     match written {
         Written::Length(count) => at + count,
         Written::Refused(_) => at,

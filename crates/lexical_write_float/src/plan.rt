@@ -1,9 +1,15 @@
 // A text as a run of pieces: digits of D, zeros, a point, zeros, the other digits of D, zeros. Each layout is such a plan, so that one function measures a text and one writes it.
 ghost use mathlib.Core.Path.{_≡_};
 ghost use mathlib.Core.List.{List};
-ghost use Prim.Native.Nat.{ℕ, _≤_};
+ghost use Prim.Native.Nat.{ℕ, _+_, _≤_};
 ghost use lib.ListN.{length};
-ghost use Rattle.lexical_write_float.specs.Code.{Small, planText};
+ghost use Rattle.lexical_util.specs.Answer.{done, written, held, ofWritten};
+ghost use Rattle.lexical_write_float.specs.Code.{Puts, Counted, digitsOf, Small, fractionText, planText};
+use crate::pieces::put_byte;
+use crate::pieces::put_digits;
+use crate::pieces::put_zeros;
+use lexical_util::Refusal;
+use lexical_util::Written;
 
 // D by the number that it spells in radix 2^bits_per_digit, and how many digits it has.
 pub struct Digits {
@@ -36,4 +42,45 @@ pub(crate) fn plan_length(count: usize, plan: Plan) -> usize
         return whole + 1 + plan.gap + (count - leading) + plan.padding;
     }
     whole
+}
+
+// What stands from the point on.
+fn put_fraction(buffer: &mut [u8], at: usize, digits: Digits, plan: Plan, point: u8) -> usize
+    requires { ⌜ Counted digits × Small (digits .count) plan × (at + length (fractionText point plan (digitsOf digits)) ≤ length (now buffer)) ⌝ }
+    ensures { λ r. ⌜ Puts (now (buffer .entry)) at (fractionText point plan (digitsOf digits)) r (now (buffer .exit)) ⌝ }
+{
+    if plan.point {
+        let gap = put_byte(buffer, at, point);
+        let rest = put_zeros(buffer, gap, plan.gap);
+        let padding = put_digits(buffer, rest, digits, plan.leading, digits.count);
+        return put_zeros(buffer, padding, plan.padding);
+    }
+    at
+}
+
+// The text of a plan, at the front of the buffer.
+pub(crate) fn put_plan(buffer: &mut [u8], digits: Digits, plan: Plan, point: u8) -> usize
+    requires { ⌜ Counted digits × Small (digits .count) plan × (length (planText point plan (digitsOf digits)) ≤ length (now buffer)) ⌝ }
+    ensures { λ r. ⌜ Puts (now (buffer .entry)) 0 (planText point plan (digitsOf digits)) r (now (buffer .exit)) ⌝ }
+{
+    let filled = put_digits(buffer, 0, digits, 0, plan.leading);
+    let fraction = put_zeros(buffer, filled, plan.filled);
+    put_fraction(buffer, fraction, digits, plan, point)
+}
+
+// The text of a plan, or refusal 8, which leaves every byte as it was.
+pub(crate) fn write_plan(digits: Digits, plan: Plan, point: u8, buffer: &mut [u8]) -> Written
+    requires { ⌜ Counted digits × Small (digits .count) plan ⌝ }
+    ensures { λ r. ⌜ ofWritten r ≡ written (done (planText point plan (digitsOf digits))) (now (buffer .entry)) ⌝ }
+    ensures { λ _. ⌜ now (buffer .exit) ≡ held (done (planText point plan (digitsOf digits))) (now (buffer .entry)) ⌝ }
+{
+    let length = plan_length(digits.count, plan);
+    if length > buffer.len() {
+        return Written::Refused(Refusal {
+            number: 8,
+            place: 0,
+        });
+    }
+    put_plan(buffer, digits, plan, point);
+    Written::Length(length)
 }

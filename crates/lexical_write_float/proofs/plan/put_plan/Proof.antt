@@ -1,0 +1,64 @@
+use mathlib.Core.Path.{_∙_}
+use Prim.Native.Nat.{ℕ, _+_, _-_, _≤_, zero-le}
+use mathlib.Core.Path.{_≡_}
+use native.Mathlib.Omega.{arith}
+use lib.ListN.{length, length-replicate}
+use Rattle.lexical_write_float.specs.Code.{digitsOf, fractionText, planText}
+use Rattle.lexical_write_float.proofs.PutLaws.{puts-more}
+use Rattle.lexical_write_float.proofs.PlanLaws.{plan-length, run-front, run-length}
+use borrow.Author.Needs.{needs}
+use Rattle.lexical_write_float.proofs.plan.put_plan.Statement.{statement}
+use Rattle.lexical_write_float.proofs.plan.put_plan.Tie as tie
+use Rattle.lexical_write_float.proofs.plan.put_plan.Reads as reads
+use Rattle.lexical_write_float.proofs.plan.put_plan.Lts as lts
+use Rattle.lexical_write_float.proofs.pieces.put_digits.Reads as put-digits-reads
+use Rattle.lexical_write_float.proofs.pieces.put_zeros.Reads as put-zeros-reads
+use Rattle.lexical_write_float.proofs.plan.put_fraction.Reads as put-fraction-reads
+
+leading-in : (c : tie.Start) → c .args .plan .leading ≤ length (digitsOf (c .args .digits))
+leading-in c = omega (arith, c .pre .0 .count-is, c .pre .1 .leading-few)
+
+room : (c : tie.Start) → let a = c .args in a .plan .leading + a .plan .filled + length (fractionText (a .point) (a .plan) (digitsOf (a .digits))) ≤ length (a .buffer .now)
+room c = let a = c .args in omega (arith, c .pre .2, plan-length (a .point) (a .plan) (digitsOf (a .digits)) (leading-in c))
+
+front : (c : tie.Start) → length (Rattle.lexical_write_integer.specs.Write.run 0 (c .args .plan .leading) (digitsOf (c .args .digits))) ≡ c .args .plan .leading
+front c = let k : c .args .plan .leading - 0 ≡ c .args .plan .leading = omega arith in run-length (digitsOf (c .args .digits)) 0 (c .args .plan .leading) (leading-in c) ∙ k
+
+-- src/plan.rt:66:9
+put-digits-requires : tie.Need-put-digits-requires
+put-digits-requires c κs = let s = c .before .before in (s .pre .0, omega (arith, room s, front s))
+
+-- src/plan.rt:67:9
+put-zeros-requires : tie.Need-put-zeros-requires
+put-zeros-requires c κs =
+    let d = c .before .before .before in
+    let s = d .before .before .before in
+    omega (arith, room s, front s, d .put-digits .ensures .next-is)
+
+-- src/plan.rt:68:5
+put-fraction-requires : tie.Need-put-fraction-requires
+put-fraction-requires c κs =
+    let z = c .before .before .before in
+    let d = z .before .before .before .before in
+    let s = d .before .before .before in
+    (s .pre .0, s .pre .1, omega (arith, room s, front s, d .put-digits .ensures .next-is, z .put-zeros .ensures .next-is, length-replicate {A = ℕ} (s .args .plan .filled) 48))
+
+-- src/plan.rt:62:1
+same-length : tie.Need-same-length
+same-length c = search needs
+
+-- src/plan.rt:62:1
+returns : tie.Need-returns
+unfolding planText
+returns c =
+    let f = c .before .before in
+    let z = f .before .before .before .before in
+    let d = z .before .before .before .before in
+    let s = d .before .before .before in
+    let a = s .args in
+    puts-more _ _ _ zero-le (rw (run-front (digitsOf (a .digits)) (a .plan .leading)) at (d .put-digits .ensures)) (puts-more _ _ _ (omega (arith, room s, front s, d .put-digits .ensures .next-is)) (z .put-zeros .ensures) (f .put-fraction .ensures))
+
+pub put-plan-spec : {M : Type 1} → statement M
+put-plan-spec =
+    tie.close
+    (tie.spec put-digits-requires put-zeros-requires put-fraction-requires same-length returns)
