@@ -1,6 +1,7 @@
 pub mod Integers
 pub mod ValueLaws
 pub mod RangeLaws
+pub mod FloatLaws
 pub mod PowerLaws
 pub mod LengthLaws
 pub mod WriteLaws

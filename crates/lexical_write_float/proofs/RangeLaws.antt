@@ -54,7 +54,7 @@ pub record InRange (m : ℕ) (e : ℤ) : Type 0 where
   pub low-end : Between 1074 1023 e
   pub high-end : (n : ℕ) → e ≡ pos n → n + size m ≤ 1024
 
-in-range : (f : Format) (m : ℕ) (e : ℤ) → 0 < m → T (fits f (fin false m e)) → InRange m e
+pub in-range : (f : Format) (m : ℕ) (e : ℤ) → 0 < m → T (fits f (fin false m e)) → InRange m e
 unfolding fits
 in-range f zero e M h = absurd (omega arith)
 in-range f (suc m) e M h =

@@ -1,0 +1,78 @@
+-- The normal form of a float's mantissa and exponent is the float itself, for both widths. Assumes nothing.
+use Prim.Native.Nat.{ℕ, zero, suc, _+_, _-_, _*_, _%_, _^_, _≤_, _<_}
+use mathlib.Core.Path.{_≡_, refl, sym, ap, ap₂, _∙_}
+use mathlib.Core.Bool.{false}
+use native.Mathlib.Nat.{mul-one, one-mul, zero-mul, mul-assoc, mul-pos, zero-add, zero-lt-suc, pow-suc}
+use native.Mathlib.Omega.{arith}
+use borrow.Author.Tests.{lt-ltb, le-ltb}
+use lib.Dec.{T, eqb→eq}
+use lib.IntN.{ℤ, pos, negsuc, _+ℤ_}
+use lib.Pow.{pow-add, pow-pos}
+use lib.Ieee.{Float, fin, Format, up, down, fits}
+use lib.Ieee.Exact.{HasValue}
+use lib.Ieee.Fits.{up-pos, down-pos}
+use Rattle.lexical_write_float.specs.Value.{Value, normal}
+use Rattle.lexical_write_float.proofs.ValueLaws.{is-normal, odd-unique}
+use Rattle.lexical_write_float.proofs.RangeLaws.{in-range}
+
+-- ---- 2 ^ e as a fraction of two powers of two
+above : ℤ → ℕ
+above (pos n) = n
+above (negsuc n) = 0
+
+below : ℤ → ℕ
+below (pos n) = 0
+below (negsuc n) = suc n
+
+up-is : (e : ℤ) → up e ≡ 2 ^ above e
+unfolding above
+up-is (pos n) = refl
+up-is (negsuc n) = refl
+
+down-is : (e : ℤ) → down e ≡ 2 ^ below e
+unfolding below
+down-is (pos n) = refl
+down-is (negsuc n) = refl
+
+-- the same power, the one lifted by t
+lifted : (d e : ℤ) (t : ℕ) → t + (above d + below e) ≡ above e + below d → d +ℤ pos t ≡ e
+unfolding above below
+lifted (pos a) (pos b) t h = ap pos (omega arith)
+lifted (pos a) (negsuc b) t h = absurd (omega arith)
+lifted (negsuc a) (pos b) t h = rw (le-ltb t (suc a) (omega arith)) (ap pos (omega arith))
+lifted (negsuc a) (negsuc b) t h = rw (lt-ltb t (suc a) (omega arith)) (ap negsuc (omega arith))
+
+-- ---- q * 2 ^ d is m * 2 ^ e, and m is odd or zero
+spread : (k q t a b : ℕ) → k * 2 ^ t ≡ q → k * 2 ^ (t + (a + b)) ≡ q * 2 ^ a * 2 ^ b
+spread k q t a b h =
+    rw (pow-add 2 t (a + b), pow-add 2 a b, ← mul-assoc k (2 ^ t) (2 ^ a * 2 ^ b), h) (sym (mul-assoc q (2 ^ a) (2 ^ b)))
+
+no-value : (q : ℕ) (d e : ℤ) → 0 * up e * down d ≡ suc q * up d * down e → ⊥
+no-value q d e h =
+    let z : 0 * up e * down d ≡ 0 = rw (zero-mul (up e), zero-mul (down d)) refl in
+    omega (arith, z, h, mul-pos (mul-pos (zero-lt-suc q) (up-pos d)) (down-pos e))
+
+odd-normal : (m q : ℕ) (e d : ℤ) → m % 2 ≡ 1 → m * up e * down d ≡ q * up d * down e → normal q d ≡ record { m = m; e = e }
+odd-normal zero q e d o h = absurd (omega arith)
+odd-normal (suc m) zero e d o h = absurd (no-value m e d (sym h))
+odd-normal (suc m) (suc q) e d o h =
+    let v = normal (suc q) d in
+    let w = is-normal (suc q) d (zero-lt-suc q) in
+    let t = w .shift in
+    let l = spread (v .m) (suc q) t (above d) (below e) (w .is) in
+    let r = spread (suc m) (suc m) 0 (above e) (below d) (mul-one (suc m)) in
+    let x : suc m * 2 ^ above e * 2 ^ below d ≡ suc q * 2 ^ above d * 2 ^ below e = rw (← up-is e, ← down-is d, ← up-is d, ← down-is e) h in
+    let u = odd-unique (v .m) (suc m) (t + (above d + below e)) (0 + (above e + below d)) (w .odd) o (l ∙ sym x ∙ sym r) in
+    ap₂ {A = ℕ} {B = ℤ} {C = Value} (λ x y. record { m = x; e = y }) (u .0) (w .exponent ∙ lifted d e t (u .1 ∙ zero-add (above e + below d)))
+
+-- zero has the exponent 0
+unit-power : (e : ℤ) → up e * down e ≡ 1 → e ≡ pos 0
+unit-power (pos zero) h = refl
+unit-power (pos (suc n)) h = absurd (omega (arith, pow-suc 2 n, pow-pos n, mul-one (2 ^ suc n)))
+unit-power (negsuc n) h = absurd (omega (arith, pow-suc 2 n, pow-pos n, one-mul (2 ^ suc n)))
+
+pub float-normal : (f : Format) (m q : ℕ) (e d : ℤ) → T (fits f (fin false m e)) → HasValue (fin false m e) false (q * up d) (down d) → normal q d ≡ record { m = m; e = e }
+unfolding fits
+float-normal f zero zero e d t h = unfold normal in ap (λ (z : ℤ). record { m = 0; e = z }) (sym (unit-power e (eqb→eq (up e * down e) 1 t)))
+float-normal f zero (suc q) e d t h = absurd (no-value q d e (h .1))
+float-normal f (suc m) q e d t h = odd-normal (suc m) q e d (in-range f (suc m) e (zero-lt-suc m) (unfold fits in t) .odd) (h .1)
