@@ -1,19 +1,30 @@
 -- The normal form of a float's mantissa and exponent is the float itself, for both widths. Assumes nothing.
 use Prim.Native.Nat.{ℕ, zero, suc, _+_, _-_, _*_, _%_, _^_, _≤_, _<_}
-use mathlib.Core.Path.{_≡_, refl, sym, ap, ap₂, _∙_}
+use mathlib.Core.Path.{_≡_, refl, sym, ap, ap₂, _∙_, subst}
 use mathlib.Core.Bool.{false}
-use native.Mathlib.Nat.{mul-one, one-mul, zero-mul, mul-assoc, mul-pos, zero-add, zero-lt-suc, pow-suc}
+use native.Mathlib.Nat.{lt-of-lt-of-le, mul-one, one-mul, zero-mul, mul-assoc, mul-pos, zero-add, zero-lt-suc, pow-suc}
 use native.Mathlib.Omega.{arith}
 use borrow.Author.Tests.{lt-ltb, le-ltb}
 use lib.Dec.{T, eqb→eq}
 use lib.IntN.{ℤ, pos, negsuc, _+ℤ_}
-use lib.Pow.{pow-add, pow-pos}
-use lib.Ieee.{Float, fin, Format, up, down, fits}
+use lib.Pow.{pow-add, pow-pos, pow-mono}
+use lib.Ieee.{Float, fin, Format, up, down, size, fits}
+use lib.Ieee.Digits.{size-lt}
 use lib.Ieee.Exact.{HasValue}
 use lib.Ieee.Fits.{up-pos, down-pos}
+use Rattle.lexical_util.specs.declared.num.Magnitude.{Magnitude}
+use Rattle.lexical_format.specs.declared.checks.CheckedFormat.{CheckedFormat}
+use Rattle.lexical_format.specs.declared.format.NumberFormat.{NumberFormat}
+use Rattle.lexical_format.specs.declared.options.Options.{Options}
+use Rattle.lexical_format.specs.declared.options.RoundMode.{RoundMode}
 use Rattle.lexical_write_float.specs.Value.{Value, normal}
+use Rattle.lexical_write_float.specs.Limit.{limited}
+use Rattle.lexical_write_float.specs.Text.{text}
+use Rattle.lexical_write_float.specs.Write.{limitedText}
+use Rattle.lexical_write_float.specs.Code.{ofMagnitude, Between, Ranged, FloatParts, rowOf, magnitudeText}
+use Rattle.lexical_write_float.proofs.Integers.{between-wider}
 use Rattle.lexical_write_float.proofs.ValueLaws.{is-normal, odd-unique}
-use Rattle.lexical_write_float.proofs.RangeLaws.{in-range}
+use Rattle.lexical_write_float.proofs.RangeLaws.{in-range, limited-fits}
 
 -- ---- 2 ^ e as a fraction of two powers of two
 above : ℤ → ℕ
@@ -76,3 +87,34 @@ unfolding fits
 float-normal f zero zero e d t h = unfold normal in ap (λ (z : ℤ). record { m = 0; e = z }) (sym (unit-power e (eqb→eq (up e * down e) 1 t)))
 float-normal f zero (suc q) e d t h = absurd (no-value q d e (h .1))
 float-normal f (suc m) q e d t h = odd-normal (suc m) q e d (in-range f (suc m) e (zero-lt-suc m) (unfold fits in t) .odd) (h .1)
+
+-- ---- how large a float's numbers are
+pub float-near : (f : Format) (m : ℕ) (e : ℤ) → T (fits f (fin false m e)) → (m < 2 ^ 60) × Between 4000 4000 e
+unfolding fits
+float-near f zero e t = (pow-pos 60, rw (unit-power e (eqb→eq (up e * down e) 1 t)) (omega arith))
+float-near f (suc m) e t =
+    let r = in-range f (suc m) e (zero-lt-suc m) (unfold fits in t) in
+    (lt-of-lt-of-le (size-lt (suc m)) (pow-mono {i = size (suc m)} {j = 60} (omega (arith, r .few))), between-wider 1074 1023 4000 4000 e (omega arith) (omega arith) (r .low-end))
+
+-- ---- a float's parts in the code: their normal form r, and t, which the digit limit made of it
+module _ (v : Magnitude) (P : FloatParts v) (r : Magnitude) (q : ofMagnitude r ≡ normal (v .mantissa) (v .exponent)) where
+  mantissa-is : r .mantissa ≡ P .m
+  mantissa-is = ap (λ (x : Value). x .m) (q ∙ P .is)
+
+  exponent-is : r .exponent ≡ P .e
+  exponent-is = ap (λ (x : Value). x .e) (q ∙ P .is)
+
+  pub normal-near : (r .mantissa < 2 ^ 60) × Between 4000 4000 (r .exponent)
+  normal-near = rw (mantissa-is, exponent-is) (float-near (P .width) (P .m) (P .e) (P .fits-width))
+
+  pub limited-near : (mode : RoundMode) (b k : ℕ) (t : Magnitude) → 0 < b → ofMagnitude t ≡ limited mode b k (r .mantissa) (r .exponent) → Ranged (t .mantissa) (t .exponent)
+  limited-near mode b k t B l =
+      let w : ofMagnitude t ≡ limited mode b k (P .m) (P .e) = l ∙ ap₂ (limited mode b k) mantissa-is exponent-is in
+      subst (λ (x : Value). Ranged (x .m) (x .e)) (sym w) (limited-fits (P .width) mode b k (P .m) (P .e) B (P .fits-width))
+
+  pub limited-text : (F : NumberFormat) (o : Options) (c : CheckedFormat) (t : Magnitude) → ofMagnitude t ≡ limited (o .«round_mode») (c .b) (o .«max_significant_digits») (r .mantissa) (r .exponent)
+      → text F o (rowOf c) (t .mantissa) (t .exponent) ≡ magnitudeText F o c v
+  unfolding limitedText
+  limited-text F o c t l =
+      ap (λ (x : Value). text F o (rowOf c) (x .m) (x .e)) l
+      ∙ ap (λ (x : Value). let w = limited (o .«round_mode») (c .b) (o .«max_significant_digits») (x .m) (x .e) in text F o (rowOf c) (w .m) (w .e)) q

@@ -1,17 +1,31 @@
--- Integers: floor and remainder by b, and which natural number lies between two. Assumes nothing.
+-- Integers: floor and remainder by b, which natural number lies between two, and an exponent of 16 bits. Assumes nothing.
 use Prim.Native.Nat.{ℕ, zero, suc, _+_, _-_, _*_, _/_, _%_, _≤_, _<_}
 use mathlib.Core.Path.{_≡_, refl, sym, ap, ap₂, _∙_}
+use mathlib.Core.Bool.{true, false}
 use native.Mathlib.Nat.{div-add-mod, mod-lt, mul-comm, mul-add, mul-suc, mul-zero, mul-pos, mul-add-div, add-comm, le-trans, le-of-eq, lt-of-lt-of-le, lt-of-not-le, div-lt-iff-lt-mul, le-div-iff-mul-le, div-eq-of-lt, zero-lt-suc}
 use native.Mathlib.Decide.{decLe}
 use native.Mathlib.Omega.{arith}
-use borrow.Author.Tests.{lt-ltb, le-ltb}
-use lib.IntN.{ℤ, pos, negsuc, negℤ, predℤ, _+ℤ_, _-ℤ_, _*ℤ_, +ℤ-assoc, +ℤ-comm, +ℤ-idr, +ℤ-negℤ-cancel, -ℤ-+ℤ-cancel, *ℤ-comm, predℤ-*ℤ, -ℤ-one}
-use lib.Signed.{shrZ}
+use borrow.Author.Tests.{lt-ltb, le-ltb, ltb-true}
+use lib.IntN.{ℤ, pos, negsuc, negℤ, natAbs, predℤ, _+ℤ_, _-ℤ_, _*ℤ_, +ℤ-assoc, +ℤ-comm, +ℤ-idr, +ℤ-negℤ-cancel, -ℤ-+ℤ-cancel, *ℤ-comm, predℤ-*ℤ, -ℤ-one}
+use lib.Signed.{shrZ, ltZ}
+use mir.Syntax.{w16}
+use mir.Val.{SFits, toZ, ofZ}
+use mir.Facts.{toZ-ofZ, toZ-pos}
 use Rattle.lexical_write_float.specs.Value.{modulo}
+use Rattle.lexical_write_float.specs.Code.{Between}
 
 pub modulo-lt : (e : ℤ) (b : ℕ) → 0 < b → modulo e b < b
 modulo-lt (pos k) b B = mod-lt k B
 modulo-lt (negsuc k) b B = let h = mod-lt k B in omega arith
+
+-- by the sign, from the magnitude
+pub modulo-above : (e : ℤ) (b : ℕ) → ltZ e (pos 0) ≡ false → natAbs e % b ≡ modulo e b
+modulo-above (pos k) b h = refl
+modulo-above (negsuc k) b h = cc
+
+pub modulo-below : (e : ℤ) (b : ℕ) → ltZ e (pos 0) ≡ true → (0 < natAbs e) × (b - 1 - (natAbs e - 1) % b ≡ modulo e b)
+modulo-below (pos k) b h = let l = ltb-true k 0 h in absurd (omega arith)
+modulo-below (negsuc k) b h = let z : suc k - 1 ≡ k = omega arith in (zero-lt-suc k, rw z (omega arith))
 
 -- b times the floor, and the remainder
 pub floor-modulo : (b : ℕ) (s : ℤ) → 0 < b → pos b *ℤ shrZ s b +ℤ pos (modulo s b) ≡ s
@@ -86,3 +100,44 @@ pub move : (x w e t : ℤ) → x +ℤ w ≡ e +ℤ t → e -ℤ x ≡ w -ℤ t
 move x w e t h =
     ap (λ (z : ℤ). z -ℤ x) (sym (+ℤ-negℤ-cancel e t) ∙ ap (λ (z : ℤ). z -ℤ t) (sym h) ∙ +ℤ-assoc x w (negℤ t) ∙ +ℤ-comm x (w -ℤ t))
     ∙ +ℤ-negℤ-cancel (w -ℤ t) x
+
+-- ---- a natural number more
+pub between-add : (least most t : ℕ) (e : ℤ) → Between least most e → (t ≤ most) → ((n : ℕ) → e ≡ pos n → n + t ≤ most) → Between least most (e +ℤ pos t)
+between-add least most t (pos n) h k l = l n refl
+between-add least most t (negsuc n) h k l = go (decLe (suc n) t)
+  where
+    go : Dec (suc n ≤ t) → Between least most (negsuc n +ℤ pos t)
+    go (yes g) = rw (le-ltb t (suc n) g) (omega arith)
+    go (no g) = rw (lt-ltb t (suc n) (lt-of-not-le g)) (omega arith)
+
+pub between-more : (least most t : ℕ) (e : ℤ) → Between least most e → Between least (most + t) (e +ℤ pos t)
+between-more least most t (pos n) h = omega arith
+between-more least most t (negsuc n) h = between-add least (most + t) t (negsuc n) h (omega arith) (λ k p. absurd (let z : _≡_ {A = ℕ} 0 1 = cc in omega arith))
+
+pub between-wider : (least most least′ most′ : ℕ) (e : ℤ) → least ≤ least′ → most ≤ most′ → Between least most e → Between least′ most′ e
+between-wider least most least′ most′ (pos n) p q h = omega arith
+between-wider least most least′ most′ (negsuc n) p q h = omega arith
+
+-- ---- the exponent of a mantissa of 64 bits and a count of its bits, as the code adds them at 16
+near-fits : (z : ℤ) → Between 8000 8064 z → SFits w16 z
+near-fits (pos n) h = record { sfits = omega arith }
+near-fits (negsuc n) h = record { sfits = omega arith }
+
+module _ (e : ℤ) (n : ℕ) (h : Between 8000 8000 e) (l : n ≤ 64) where
+  abbrev coded-sum : ℤ
+  coded-sum = toZ w16 (ofZ w16 e) +ℤ toZ w16 n
+
+  coded-is : coded-sum ≡ e +ℤ pos n
+  coded-is = rw (toZ-ofZ (near-fits e (between-wider 8000 8000 8000 8064 e (omega arith) (omega arith) h)), toZ-pos w16 {n = n} (omega arith))
+
+  pub sum-fits : SFits w16 coded-sum
+  sum-fits = rw coded-is (near-fits (e +ℤ pos n) (between-wider 8000 (8000 + n) 8000 8064 (e +ℤ pos n) (omega arith) (omega arith) (between-more 8000 8000 n e h)))
+
+  pub sum-is : toZ w16 (ofZ w16 coded-sum) ≡ e +ℤ pos n
+  sum-is = toZ-ofZ sum-fits ∙ coded-is
+
+-- and a sum that may stand there again
+pub near-sum : (e : ℤ) (n : ℕ) → Between 4000 4000 e → n ≤ 64 → Between 8000 8000 (toZ w16 (ofZ w16 (toZ w16 (ofZ w16 e) +ℤ toZ w16 n)))
+near-sum e n h l =
+    rw (sum-is e n (between-wider 4000 4000 8000 8000 e (omega arith) (omega arith) h) l)
+    (between-wider 4000 (4000 + n) 8000 8000 (e +ℤ pos n) (omega arith) (omega arith) (between-more 4000 4000 n e h))

@@ -25,7 +25,7 @@ use Rattle.lexical_write_float.specs.Value.{modulo, exactDigits}
 use Rattle.lexical_write_float.specs.Code.{Between, Ranged}
 use Rattle.lexical_write_float.specs.Text.{zeros, point, least, trim, isScientific, layoutOf, scientific, exponentSign, exponentText, negative, positive, laidOut, digitsSoFar, text}
 use Rattle.lexical_write_float.proofs.Integers.{modulo-lt}
-use Rattle.lexical_write_float.proofs.ValueLaws.{length-exact}
+use Rattle.lexical_write_float.proofs.ValueLaws.{exact-few}
 use Rattle.lexical_write_float.proofs.RangeLaws.{place-near}
 use Rattle.lexical_write_float.proofs.PowerLaws.{few-digits}
 
@@ -87,19 +87,6 @@ module _ (F : NumberFormat) (o : Options) (row : Pair) (W : Writable F o row) wh
       go false (pos n) h = rw (leb·suc-zero n) (positive-length D few (n / row .b + 1) soFar (omega (arith, div-le-self n (row .b))))
       go false (negsuc n) h = negative-length D few (negsuc (n / row .b)) (omega (arith, div-le-self n (row .b)))
 
-  -- ---- D has at most 64 digits
-  exact-few : (m : ℕ) (e : ℤ) → m < 2 ^ 54 → length (exactDigits (row .b) m e) ≤ 64
-  exact-few zero e h = unfold exactDigits in go (zero * 2 ^ modulo e (row .b)) (zero-mul (2 ^ modulo e (row .b)))
-    where
-      go : (n : ℕ) → n ≡ 0 → length (numeral (2 ^ row .b) n) ≤ 64
-      go n z = omega (arith, length-numeral (2 ^ row .b) n, count-lt (2 ^ row .b) n (rw z (pow-pos (row .b))))
-  exact-few (suc m) e h =
-      let P = W .reads .pair in
-      let s = size-le (suc m) 54 h in
-      let r = modulo-lt e (row .b) (P .some-bits) in
-      let k = P .few-bits in
-      omega (arith, length-exact (row .b) (suc m) e (P .some-bits) (zero-lt-suc m), div-le-self (size (suc m) - 1 + modulo e (row .b)) (row .b))
-
   pub text-length : (m : ℕ) (e : ℤ) → Ranged m e → length (text F o row m e) ≤ 2275
   unfolding text
-  text-length m e r = laid-length (exactDigits (row .b) m e) (digitsSoFar F o m (exactDigits (row .b) m e)) (scale m e) (exact-few m e (r .few)) (r .near)
+  text-length m e r = laid-length (exactDigits (row .b) m e) (digitsSoFar F o m (exactDigits (row .b) m e)) (scale m e) (exact-few (row .b) m e (W .reads .pair .some-bits) (W .reads .pair .few-bits) (r .few)) (r .near)

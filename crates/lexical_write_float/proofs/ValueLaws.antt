@@ -1,10 +1,10 @@
 -- The normal form of a value, and what document 01 says of D: its first digit's place is p = floor (s / b), and its first and its last digit are not zero. Assumes nothing.
 use Prim.Native.Nat.{ℕ, zero, suc, _+_, _-_, _*_, _/_, _%_, _^_, _≤_, _<_}
 use mathlib.Core.Path.{_≡_, refl, sym, ap, ap₂, _∙_}
-use native.Mathlib.Nat.{le-antisymm, le-trans, le-of-eq, div-one, mul-one, mul-assoc, mul-pos, mul-le-mul-right, div-div-eq-div-mul, div-add-mod', add-comm, add-zero, pow-suc, pow-succ', eq-of-mul-eq-mul-right, zero-lt-suc}
+use native.Mathlib.Nat.{le-antisymm, le-trans, le-of-eq, div-one, mul-one, mul-assoc, mul-pos, mul-le-mul-right, div-div-eq-div-mul, div-add-mod', add-comm, add-zero, pow-suc, pow-succ', eq-of-mul-eq-mul-right, zero-lt-suc, zero-mul, div-le-self}
 use native.Mathlib.Omega.{arith}
 use lib.Count.{trailingZeros, under}
-use lib.IntN.{ℤ, pos, _+ℤ_, _*ℤ_, +ℤ-assoc}
+use lib.IntN.{ℤ, pos, _+ℤ_, _*ℤ_, +ℤ-assoc, +ℤ-idr}
 use lib.Signed.{shrZ}
 use lib.ListN.{length, getD}
 use lib.Pow.{pow-add, pow-pos, shl-lt}
@@ -13,8 +13,8 @@ use lib.Ieee.Digits.{size-lt, size-le, size-reaches}
 use Rattle.lexical_util.specs.Num.{scale, place}
 use Rattle.lexical_util.proofs.ExponentLaws.{scale-is}
 use Rattle.lexical_util.proofs.PowerLaws.{size-more, size-pos}
-use Rattle.lexical_write_integer.specs.Digits.{digits}
-use Rattle.lexical_write_integer.proofs.DigitsLaws.{radix-above, count-bits, first-pos, length-numeral}
+use Rattle.lexical_write_integer.specs.Digits.{digits, numeral}
+use Rattle.lexical_write_integer.proofs.DigitsLaws.{radix-above, count-bits, count-lt, first-pos, length-numeral}
 use Rattle.lexical_write_float.specs.Value.{Value, normal, modulo, exactDigits}
 use Rattle.lexical_write_float.proofs.Integers.{modulo-lt, floor-modulo, floor-add}
 
@@ -25,6 +25,9 @@ size-shift m t h =
     let lo : 2 ^ (size m - 1 + t) ≤ m * 2 ^ t = le-trans (le-of-eq (pow-add 2 (size m - 1) t)) (mul-le-mul-right (2 ^ t) (size-reaches m (size m - 1) (omega arith))) in
     let l = size-more (m * 2 ^ t) (size m - 1 + t) lo in
     le-antisymm (size-le (m * 2 ^ t) (size m + t) (shl-lt (size m) t (size-lt m))) (omega arith)
+
+pub size-under : (m k t : ℕ) → 0 < m → m * 2 ^ k < 2 ^ t → size m + k ≤ t
+size-under m k t M h = le-trans (le-of-eq (sym (size-shift m k M))) (size-le (m * 2 ^ k) t h)
 
 -- ---- the normal form: n is an odd number times 2 ^ shift
 pub record IsNormal (n : ℕ) (e : ℤ) (v : Value) : Type 0 where
@@ -77,6 +80,36 @@ normal-shift m d e o =
     let u = odd-unique (v .m) m (w .shift) d (w .odd) o (w .is) in
     ap₂ {A = ℕ} {B = ℤ} {C = Value} (λ x y. record { m = x; e = y }) (u .0) (w .exponent ∙ ap (λ (k : ℕ). e +ℤ pos k) (u .1))
 
+pub normal-odd : (m : ℕ) (e : ℤ) → m % 2 ≡ 1 → normal m e ≡ record { m = m; e = e }
+normal-odd m e o = ap (λ (n : ℕ). normal n e) (sym (mul-one m)) ∙ normal-shift m 0 e o ∙ ap (λ (z : ℤ). record { m = m; e = z }) (+ℤ-idr e)
+
+-- of any number, odd or not
+pub normal-more : (n d : ℕ) (e : ℤ) → 0 < n → normal (n * 2 ^ d) e ≡ normal n (e +ℤ pos d)
+normal-more n d e h =
+    let v = normal n (e +ℤ pos d) in
+    let w = is-normal n (e +ℤ pos d) h in
+    let s = w .shift in
+    let whole : n * 2 ^ d ≡ v .m * 2 ^ (s + d) = ap (λ (x : ℕ). x * 2 ^ d) (sym (w .is)) ∙ mul-assoc (v .m) (2 ^ s) (2 ^ d) ∙ ap (λ (x : ℕ). v .m * x) (sym (pow-add 2 s d)) in
+    let sum : e +ℤ pos (s + d) ≡ v .e = ap (λ (k : ℕ). e +ℤ pos k) (add-comm s d) ∙ sym (+ℤ-assoc e (pos d) (pos s)) ∙ sym (w .exponent) in
+    ap (λ (x : ℕ). normal x e) whole ∙ normal-shift (v .m) (s + d) e (w .odd) ∙ ap (λ (z : ℤ). record { m = v .m; e = z }) sum
+
+-- by the zeros below a number's last bit, counted in k bits that hold it
+module _ (k n : ℕ) (p : 0 < n) (h : n < 2 ^ k) where
+  pub trailing-lt : trailingZeros k n < k
+  trailing-lt =
+      let t = trailingZeros k n in
+      let o = odd-part k n p h in
+      let q = odd-pos (n / 2 ^ t) (o .1) in
+      omega (arith, size-pos (n / 2 ^ t) q, size-under (n / 2 ^ t) t k q (rw (o .0) h))
+
+  pub normal-trailing : (e : ℤ) → record { m = n / 2 ^ trailingZeros k n; e = e +ℤ pos (trailingZeros k n) } ≡ normal n e
+  normal-trailing e = let o = odd-part k n p h in sym (normal-shift (n / 2 ^ trailingZeros k n) (trailingZeros k n) e (o .1)) ∙ ap (λ (x : ℕ). normal x e) (o .0)
+
+pub normal-zero : (n : ℕ) (e : ℤ) → n ≡ 0 → record { m = 0; e = pos 0 } ≡ normal n e
+unfolding normal
+normal-zero zero e h = refl
+normal-zero (suc n) e h = absurd (omega arith)
+
 -- s is the same
 pub scale-normal : (n : ℕ) (e : ℤ) → 0 < n → scale (normal n e .m) (normal n e .e) ≡ scale n e
 scale-normal n e h =
@@ -96,6 +129,17 @@ length-exact b m e B M =
     let p = size-pos m M in
     length-numeral (2 ^ b) (m * 2 ^ r) ∙ count-bits b (m * 2 ^ r) B (mul-pos M (pow-pos r))
     ∙ ap (λ (k : ℕ). suc (k / b)) (ap (λ (k : ℕ). k - 1) (size-shift m r M) ∙ (let z : size m + r - 1 ≡ size m - 1 + r = omega arith in z))
+
+-- of a mantissa below 2 ^ 54 at most 64
+pub exact-few : (b m : ℕ) (e : ℤ) → 0 < b → b ≤ 5 → m < 2 ^ 54 → length (exactDigits b m e) ≤ 64
+exact-few b zero e B K h = unfold exactDigits in go (zero * 2 ^ modulo e b) (zero-mul (2 ^ modulo e b))
+  where
+    go : (n : ℕ) → n ≡ 0 → length (numeral (2 ^ b) n) ≤ 64
+    go n z = omega (arith, length-numeral (2 ^ b) n, count-lt (2 ^ b) n (rw z (pow-pos b)))
+exact-few b (suc m) e B K h =
+    let s = size-le (suc m) 54 h in
+    let r = modulo-lt e b B in
+    omega (arith, length-exact b (suc m) e B (zero-lt-suc m), div-le-self (size (suc m) - 1 + modulo e b) b)
 
 -- D's last place is floor (e / b), so that its first is p
 pub first-place : (b m : ℕ) (e : ℤ) → 0 < b → 0 < m → place b (scale m e) ≡ shrZ e b +ℤ pos (length (exactDigits b m e) - 1)

@@ -1,10 +1,12 @@
 -- What the inner functions ask for and answer. The exported contracts cite none of it. Definitions only.
 use Prim.Native.Nat.{ℕ, _+_, _^_, _≤_, _<_}
 use mathlib.Core.Path.{_≡_}
-use mathlib.Core.Bool.{Bool, cond}
+use mathlib.Core.Bool.{Bool, false, cond}
 use mathlib.Core.List.{List, [], _∷_, _++_}
-use lib.IntN.{ℤ, pos, negsuc}
+use lib.Dec.{T}
+use lib.IntN.{ℤ, pos, negsuc, natAbs}
 use lib.ListN.{length, take, drop}
+use lib.Ieee.{Format, fin, fits}
 use Rattle.lexical_util.specs.Answer.{done}
 use Rattle.lexical_util.specs.Num.{scale}
 use Rattle.lexical_util.specs.declared.num.Magnitude.{Magnitude}
@@ -14,10 +16,12 @@ use Rattle.lexical_format.specs.declared.format.Pair.{Pair}
 use Rattle.lexical_format.specs.declared.format.NumberFormat.{NumberFormat}
 use Rattle.lexical_format.specs.declared.options.Options.{Options}
 use Rattle.lexical_format.specs.Format.{pair, writingFormat, settled}
+use Rattle.lexical_write_float.specs.declared.layout.Layout.{Layout}
+use Rattle.lexical_write_float.specs.declared.layout.Layout.the-variants.{Scientific, Negative, Positive}
 use Rattle.lexical_write_float.specs.declared.plan.Digits.{Digits}
 use Rattle.lexical_write_float.specs.declared.plan.Plan.{Plan}
 use Rattle.lexical_write_float.specs.Value.{Value, normal}
-use Rattle.lexical_write_float.specs.Text.{zeros}
+use Rattle.lexical_write_float.specs.Text.{zeros, scientific, negative, positive}
 use Rattle.lexical_write_float.specs.Write.{limitedText}
 
 -- ---- values
@@ -34,6 +38,15 @@ Between least most (negsuc n) = n < least
 pub record Ranged (m : ℕ) (e : ℤ) : Type 0 where
   pub few : m < 2 ^ 54
   pub near : Between 1074 1024 (scale m e)
+
+-- the parts of a finite float with the sign bit clear, of either width
+pub record FloatParts (v : Magnitude) : Type 0 where
+  pub width : Format
+  pub m : ℕ
+  pub e : ℤ
+  pub fits-width : T (fits width (fin false m e))
+  pub is : normal (v .mantissa) (v .exponent) ≡ record { m = m; e = e }
+  pub near : Between 8000 8000 (v .exponent)
 
 -- ---- a format that passed the check with this answer
 pub record Passed (F : NumberFormat) (o : Options) (checked : CheckedFormat) : Type 0 where
@@ -74,6 +87,12 @@ pub record Small (count : ℕ) (P : Plan) : Type 0 where
 pub record IsPlan (point count : ℕ) (text : List ℕ → List ℕ) (P : Plan) : Type 0 where
   pub is : (D : List ℕ) → length D ≡ count → planText point P D ≡ text D
   pub small : Small count P
+
+-- a layout's text without its exponent
+abbrev pub bodyText : NumberFormat → Options → ℤ → ℕ → Layout → List ℕ → List ℕ
+bodyText F o p soFar Scientific D = scientific F o D
+bodyText F o p soFar Negative D = negative F o D p
+bodyText F o p soFar Positive D = positive F o D (natAbs p + 1) soFar
 
 -- ---- an exponent in powers of the base, by its sign and its magnitude
 abbrev pub signText : Bool → Bool → List ℕ

@@ -1,14 +1,136 @@
-// Derived from lexical-write-float/src/binary.rs, changed: a layout answers a plan, which is measured before it is written.
+// Derived from `calculate_shl` and `truncate_and_round` of lexical-write-float/src/binary.rs, changed: the unit of a digit limit is aligned with the digits, and a value comes back in normal form, so that a carry needs no count of its own.
+ghost use mathlib.Core.Path.{_≡_};
+ghost use Prim.Native.Nat.{_+_, _-_, _*_, _%_, _^_, _≤_, _<_, ℕ};
+ghost use Rattle.lexical_write_float.specs.Value.{modulo, normal};
+ghost use Rattle.lexical_write_float.specs.Limit.{rounded, limited};
+ghost use Rattle.lexical_write_float.specs.Code.{ofMagnitude, Between, IsPlan};
 ghost use mathlib.Core.List.{List};
-ghost use Prim.Native.Nat.{ℕ, _+_, _-_, _≤_, _<_};
 ghost use lib.IntN.{natAbs};
 ghost use Rattle.lexical_format.specs.declared.format.NumberFormat.{NumberFormat};
 ghost use Rattle.lexical_write_float.specs.Text.{point, least, negative, positive};
-ghost use Rattle.lexical_write_float.specs.Code.{IsPlan};
 use crate::plan::Plan;
 use crate::shared::missing_digits;
 use lexical_format::Options;
+use lexical_format::RoundMode;
+use lexical_util::BitExponent;
 use lexical_util::DigitExponent;
+use lexical_util::Magnitude;
+use lexical_util::sci_exp;
+use lexical_util::significant_bits;
+use lexical_util::unsigned_abs;
+
+// Each divisor as a literal: a division by a variable is slow.
+fn remainder(value: u32, divisor: u32) -> u32
+    requires { ⌜ (0 < divisor) × (divisor ≤ 5) ⌝ }
+    ensures { λ r. ⌜ (r ≡ value % divisor) × (r < divisor) ⌝ }
+{
+    match divisor {
+        1 => 0,
+        2 => value % 2,
+        3 => value % 3,
+        4 => value % 4,
+        _ => value % 5,
+    }
+}
+
+// e mod b: by how many bits a mantissa is shifted up so that its exponent is a whole number of digits.
+pub(crate) fn calculate_shl(exponent: i32, bits_per_digit: u32) -> u32
+    requires { ⌜ (0 < «bits_per_digit») × («bits_per_digit» ≤ 5) ⌝ }
+    ensures { λ r. ⌜ (r ≡ modulo exponent «bits_per_digit») × (r < «bits_per_digit») ⌝ }
+{
+    let magnitude = unsigned_abs(exponent);
+    if exponent < 0 {
+        let last = bits_per_digit - 1;
+        let rest = remainder(magnitude - 1, bits_per_digit);
+        return last - rest;
+    }
+    remainder(magnitude, bits_per_digit)
+}
+
+// The normal form of a value: the mantissa odd, or both zero.
+pub(crate) fn normalized(value: Magnitude) -> Magnitude
+    requires { ⌜ Between 8000 8000 (value .exponent) ⌝ }
+    ensures { λ r. ⌜ ofMagnitude r ≡ normal (value .mantissa) (value .exponent) ⌝ }
+{
+    let mantissa = value.mantissa;
+    let exponent = value.exponent;
+    if mantissa == 0 {
+        return Magnitude {
+            mantissa: 0,
+            exponent: 0,
+        };
+    }
+    let zeros = u64::trailing_zeros(mantissa);
+    let lift = zeros as i16;
+    Magnitude {
+        mantissa: mantissa >> zeros,
+        exponent: exponent + lift,
+    }
+}
+
+// The mantissa as a number of units of 2^cut, a tie to the even one.
+fn round_to_units(mantissa: u64, cut: u32, mode: RoundMode) -> u64
+    requires { ⌜ (mantissa < 2 ^ 60) × (cut < 60) ⌝ }
+    ensures { λ r. ⌜ r ≡ rounded mode mantissa (2 ^ cut) ⌝ }
+{
+    let unit = 1u64 << cut;
+    let whole = mantissa >> cut;
+    let next = whole + 1;
+    let twice = (mantissa & (unit - 1)) * 2;
+    match mode {
+        RoundMode::Truncate => whole,
+        RoundMode::Round => {
+            if twice < unit {
+                return whole;
+            }
+            if twice == unit {
+                return whole + whole % 2;
+            }
+            next
+        }
+    }
+}
+
+// Of the bits below the leading one, how many stand in the first `digits` digits: the first digit has s mod b of them.
+fn kept_bits(s: BitExponent, bits_per_digit: u32, digits: u32) -> u32
+    requires { ⌜ (0 < «bits_per_digit») × («bits_per_digit» ≤ 5) × (0 < digits) × (digits ≤ 1200) ⌝ }
+    ensures { λ r. ⌜ r ≡ «bits_per_digit» * (digits - 1) + modulo (s .0) «bits_per_digit» ⌝ }
+{
+    let first = calculate_shl(s.0, bits_per_digit);
+    bits_per_digit * (digits - 1) + first
+}
+
+// At most `digits` digits, 0 no limit: document 01, "Digit limit".
+pub(crate) fn truncate_and_round(
+    value: Magnitude,
+    bits_per_digit: u32,
+    digits: u32,
+    mode: RoundMode,
+) -> Magnitude
+    requires { ⌜ (value .mantissa < 2 ^ 60) × Between 4000 4000 (value .exponent) × (0 < «bits_per_digit») × («bits_per_digit» ≤ 5) × (digits ≤ 1200) ⌝ }
+    ensures { λ r. ⌜ ofMagnitude r ≡ limited mode «bits_per_digit» digits (value .mantissa) (value .exponent) ⌝ }
+{
+    let mantissa = value.mantissa;
+    let exponent = value.exponent;
+    if digits == 0 {
+        return value;
+    }
+    if mantissa == 0 {
+        return value;
+    }
+    let s = sci_exp(value);
+    let keep = kept_bits(s, bits_per_digit, digits);
+    let below = significant_bits(mantissa) - 1;
+    if below <= keep {
+        return normalized(value);
+    }
+    let cut = below - keep;
+    let units = round_to_units(mantissa, cut, mode);
+    normalized(Magnitude {
+        mantissa: units,
+        exponent: exponent + cut as i16,
+    })
+}
 
 // "0", point, -p-1 zeros, D, zeros up to the least count. Trim does nothing.
 pub(crate) fn write_float_negative_exponent(

@@ -5,5 +5,6 @@ pub mod layout;
 mod pieces;
 pub mod plan;
 mod shared;
+mod write;
 
 pub use layout::Layout;

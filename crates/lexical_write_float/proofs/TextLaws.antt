@@ -1,0 +1,117 @@
+-- A text by its pieces: what the code knows of a checked format, of D and of a layout. Assumes nothing.
+use Prim.Native.Nat.{ℕ, zero, suc, _+_, _*_, _/_, _%_, _^_, _≤_, _<_}
+use mathlib.Core.Path.{_≡_, refl, sym, ap, _∙_}
+use mathlib.Core.Bool.{true}
+use mathlib.Core.List.{List, _++_}
+use native.Mathlib.Nat.{mul-le-mul, div-le-self, mod-eq-of-lt, lt-of-lt-of-le, mul-lt-mul-of-pos-right}
+use native.Mathlib.Omega.{arith}
+use lib.IntN.{ℤ, natAbs}
+use lib.ListN.{length}
+use lib.Pow.{pow-pos, pow-mono, shl-lt}
+use Rattle.lexical_util.specs.Digit.{isRadix}
+use Rattle.lexical_util.specs.Num.{scale, place, power}
+use Rattle.lexical_write_integer.proofs.DigitsLaws.{length-numeral, count-pos, radix-above}
+use Rattle.lexical_format.specs.declared.checks.CheckedFormat.{CheckedFormat}
+use Rattle.lexical_format.specs.declared.format.Pair.{Pair}
+use Rattle.lexical_format.specs.declared.format.NumberFormat.{NumberFormat}
+use Rattle.lexical_format.specs.declared.options.Options.{Options}
+use Rattle.lexical_format.specs.Format.{lowBreak, highBreak, settled}
+use Rattle.lexical_format.proofs.FormatLaws.{writable}
+use Rattle.lexical_write_float.specs.declared.layout.Layout.{Layout}
+use Rattle.lexical_write_float.specs.declared.layout.Layout.the-variants.{Scientific, Negative, Positive}
+use Rattle.lexical_write_float.specs.declared.plan.Digits.{Digits}
+use Rattle.lexical_write_float.specs.Value.{exactDigits}
+use Rattle.lexical_write_float.specs.Text.{least, scientific, exponentText, negative, positive, layoutOf, digitsSoFar, text}
+use Rattle.lexical_write_float.specs.Code.{Passed, rowOf, Counted, bodyText}
+
+-- ---- a format that passed the check
+pub record Known (F : NumberFormat) (o : Options) (c : CheckedFormat) : Type 0 where
+  pub some-bits : 0 < c .b
+  pub few-bits : c .b ≤ 5
+  pub radix-is : F .«mantissa_radix» ≡ 2 ^ c .b
+  pub power-radix : isRadix (F .«exponent_radix») ≡ true
+  pub few-least : least F o ≤ 1200
+  pub few-most : o .«max_significant_digits» ≤ 1200
+  pub low : c .«negative_exponent_break» ≡ lowBreak o
+  pub high : c .«positive_exponent_break» ≡ highBreak o
+
+pub known : (F : NumberFormat) (o : Options) (c : CheckedFormat) → Passed F o c → Known F o c
+known F o c P = rw (P .is-settled) at-row
+  where
+    at-row : Known F o (settled o (P .row))
+    at-row =
+        let W = writable F o (P .row) (P .is-row) in
+        record {
+          some-bits = W .reads .pair .some-bits;
+          few-bits = W .reads .pair .few-bits;
+          radix-is = W .reads .radix-is;
+          power-radix = W .reads .power;
+          few-least = W .least;
+          few-most = W .most;
+          low = refl;
+          high = refl;
+        }
+
+-- the radix of a mantissa is a radix
+pub radix-known : (b : ℕ) → 0 < b → b ≤ 5 → isRadix (2 ^ b) ≡ true
+unfolding isRadix
+radix-known zero B K = absurd (omega arith)
+radix-known (suc zero) B K = refl
+radix-known (suc (suc zero)) B K = refl
+radix-known (suc (suc (suc zero))) B K = refl
+radix-known (suc (suc (suc (suc zero)))) B K = refl
+radix-known (suc (suc (suc (suc (suc zero))))) B K = refl
+radix-known (suc (suc (suc (suc (suc (suc b)))))) B K = absurd (omega arith)
+
+-- a mantissa shifted up by less than a digit fits 64 bits
+pub shift-fits : (m k : ℕ) → m < 2 ^ 54 → k < 5 → m * 2 ^ k % 18446744073709551616 ≡ m * 2 ^ k
+shift-fits m k h l = mod-eq-of-lt (lt-of-lt-of-le (shl-lt 54 k h) (pow-mono {i = 54 + k} {j = 64} (omega arith)))
+
+pub counted-some : (D : Digits) → Counted D → 0 < D .count
+counted-some D C =
+    let b = D .«bits_per_digit» in
+    omega (arith, C .count-is, length-numeral (2 ^ b) (D .value), count-pos (2 ^ b) (radix-above b (C .some-bits)) (D .value))
+
+-- p * b / c is below 2 ^ 13
+pub power-few : (b c : ℕ) (p : ℤ) → b ≤ 5 → natAbs p ≤ 1074 → power b c p < 8192
+power-few b c p K h =
+    let x : natAbs p * b ≤ 1074 * 5 = mul-le-mul h K in
+    omega (arith, div-le-self (natAbs p * b) c)
+
+-- ---- the text by its layout
+module _ (F : NumberFormat) (o : Options) (row : Pair) (m : ℕ) (e : ℤ) where
+  abbrev D : List ℕ
+  D = exactDigits (row .b) m e
+
+  abbrev p : ℤ
+  p = place (row .b) (scale m e)
+
+  pub text-scientific : layoutOf F o (scale m e) ≡ Scientific → text F o row m e ≡ scientific F o D ++ exponentText F o row p
+  unfolding text
+  text-scientific l = rw l refl
+
+  pub text-negative : layoutOf F o (scale m e) ≡ Negative → text F o row m e ≡ negative F o D p
+  unfolding text
+  text-negative l = rw l refl
+
+  pub text-positive : layoutOf F o (scale m e) ≡ Positive → text F o row m e ≡ positive F o D (natAbs p + 1) (digitsSoFar F o m D)
+  unfolding text
+  text-positive l = rw l refl
+
+-- ---- the same by what the code has of it: D, p, the digits so far and the layout
+module _ (F : NumberFormat) (o : Options) (c : CheckedFormat) (m : ℕ) (e : ℤ) (D : List ℕ) (p : ℤ) (soFar : ℕ) (l : Layout) where
+  pub record IsLaid : Type 0 where
+    pub digits-are : D ≡ exactDigits (c .b) m e
+    pub place-is : p ≡ place (c .b) (scale m e)
+    pub so-far-is : soFar ≡ digitsSoFar F o m D
+    pub layout-is : l ≡ layoutOf F o (scale m e)
+
+  pub laid-scientific : IsLaid → l ≡ Scientific → bodyText F o p soFar l D ++ exponentText F o (rowOf c) p ≡ text F o (rowOf c) m e
+  laid-scientific h q =
+      rw (q, h .digits-are, h .place-is) (sym (text-scientific F o (rowOf c) m e (sym (h .layout-is) ∙ q)))
+
+  pub laid-negative : IsLaid → l ≡ Negative → bodyText F o p soFar l D ≡ text F o (rowOf c) m e
+  laid-negative h q = rw (q, h .digits-are, h .place-is) (sym (text-negative F o (rowOf c) m e (sym (h .layout-is) ∙ q)))
+
+  pub laid-positive : IsLaid → l ≡ Positive → bodyText F o p soFar l D ≡ text F o (rowOf c) m e
+  laid-positive h q = rw (q, h .so-far-is, h .digits-are, h .place-is) (sym (text-positive F o (rowOf c) m e (sym (h .layout-is) ∙ q)))

@@ -1,0 +1,81 @@
+use mathlib.Core.Bool.{true}
+use Rattle.lexical_util.specs.Digit.{isRadix}
+use Prim.Native.Nat.{_≤_}
+use lib.IntN.{ℤ}
+use Rattle.lexical_util.proofs.DifferenceLaws.{widened}
+use Prim.Native.Nat.{ℕ, _*_, _%_, _^_}
+use mathlib.Core.Path.{_≡_, sym, ap, _∙_}
+use native.Mathlib.Omega.{arith}
+use mir.Syntax.{w16, w32}
+use mir.Val.{SFits, toZ, ofZ}
+use mir.Facts.{toZ-ofZ, sfits-widen}
+use lib.ListN.{length}
+use Rattle.lexical_write_integer.specs.Digits.{numeral}
+use Rattle.lexical_write_float.specs.Value.{modulo, exactDigits}
+use Rattle.lexical_write_float.proofs.PowerLaws.{count-is}
+use Rattle.lexical_write_float.proofs.ValueLaws.{exact-few}
+use Rattle.lexical_write_float.proofs.TextLaws.{radix-known, shift-fits}
+use borrow.Author.Needs.{needs}
+use Rattle.lexical_write_float.proofs.write.digits_of.Statement.{statement}
+use Rattle.lexical_write_float.proofs.write.digits_of.Tie as tie
+use Rattle.lexical_write_float.proofs.write.digits_of.Reads as reads
+use Rattle.lexical_write_float.proofs.write.digits_of.Lts as lts
+use Rattle.lexical_write_float.proofs.binary.calculate_shl.Reads as calculate-shl-reads
+use Rattle.lexical_write_integer.proofs.digit_count.Reads as digit-count-reads
+
+fitted : (c : tie.After-struct-told) → SFits w16 (c .before .before .args .value .exponent)
+fitted c = record { sfits = c .struct-told .given .1 .0 .1 }
+
+abbrev shifted : tie.After-calculate-shl → ℕ
+shifted c = c .before .before .before .args .value .mantissa * 2 ^ c .calculate-shl .result % 18446744073709551616
+
+shift-is : (c : tie.After-calculate-shl) → shifted c ≡ c .before .before .before .args .value .mantissa * 2 ^ modulo (c .before .before .before .args .value .exponent) (c .before .before .before .args .bits-per-digit)
+shift-is c =
+    let s = c .before .before .before in
+    let a = s .args in
+    shift-fits (a .value .mantissa) (c .calculate-shl .result) (s .pre .3) (omega (arith, c .calculate-shl .ensures .1, s .pre .2))
+    ∙ ap (λ (k : ℕ). a .value .mantissa * 2 ^ k) (c .calculate-shl .ensures .0 ∙ ap (λ (z : ℤ). modulo z (a .bits-per-digit)) (widened (a .value .exponent) (fitted (c .before)) .1))
+
+-- src/write.rt:41:29
+cast-calculate-shl : tie.Need-cast-calculate-shl
+cast-calculate-shl c = widened _ (fitted c) .0
+
+-- src/write.rt:41:9
+calculate-shl-requires : tie.Need-calculate-shl-requires
+calculate-shl-requires c κs = search needs
+
+-- src/write.rt:42:37
+cast-shifted : tie.Need-cast-shifted
+cast-shifted c = search needs
+
+-- src/write.rt:42:19
+shl-shifted : tie.Need-shl-shifted
+shl-shifted c = search needs
+
+-- src/write.rt:46:16
+digit-count-requires : tie.Need-digit-count-requires
+digit-count-requires c κs = search needs
+
+-- src/write.rt:37:1
+returns : tie.Need-returns
+unfolding exactDigits
+returns c =
+    let k = c .before .before in
+    let s = k .before .before .before in
+    let a = s .args in
+    let known : isRadix (a .radix) ≡ true = rw (s .pre .0) (radix-known (a .bits-per-digit) (s .pre .1) (s .pre .2)) in
+    let n : c .digit-count .result ≡ length (numeral (2 ^ a .bits-per-digit) (shifted k)) = rw (s .pre .0) at (c .digit-count .ensures ∙ count-is (a .radix) (shifted k) known) in
+    let same = ap (numeral (2 ^ a .bits-per-digit)) (shift-is k) in
+    let few : length (numeral (2 ^ a .bits-per-digit) (a .value .mantissa * 2 ^ modulo (a .value .exponent) (a .bits-per-digit))) ≤ 64 = exact-few (a .bits-per-digit) (a .value .mantissa) (a .value .exponent) (s .pre .1) (s .pre .2) (s .pre .3) in
+    (same, record { some-bits = s .pre .1; few-bits = s .pre .2; count-is = n; few = rw (n, same) few })
+
+pub digits-of-spec : {M : Type 1} → statement M
+digits-of-spec =
+    tie.close
+    (tie.spec
+    cast-calculate-shl
+    calculate-shl-requires
+    cast-shifted
+    shl-shifted
+    digit-count-requires
+    returns)

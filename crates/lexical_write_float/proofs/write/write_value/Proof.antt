@@ -1,0 +1,192 @@
+use Prim.Native.Nat.{ℕ, _≤_, _<_}
+use mathlib.Core.Path.{_≡_, sym, ap, ap₂, _∙_}
+use mathlib.Core.List.{List, _++_}
+use native.Mathlib.Omega.{arith}
+use lib.IntN.{ℤ, natAbs}
+use lib.ListN.{length}
+use Rattle.lexical_util.specs.Answer.{done, written, held}
+use Rattle.lexical_util.specs.Num.{scale, place}
+use Rattle.lexical_write_float.specs.Text.{point, exponentText, layoutOf, text}
+use Rattle.lexical_write_float.specs.Code.{rowOf, digitsOf, planText, bodyText, powerText}
+use Rattle.lexical_write_float.proofs.RangeLaws.{place-near}
+use Rattle.lexical_write_float.proofs.PowerLaws.{power-is}
+use Rattle.lexical_write_float.proofs.TextLaws.{Known, known, counted-some, power-few, IsLaid, laid-scientific, laid-negative, laid-positive}
+use borrow.Author.Needs.{needs}
+use Rattle.lexical_write_float.proofs.write.write_value.Statement.{statement}
+use Rattle.lexical_write_float.proofs.write.write_value.Tie as tie
+use Rattle.lexical_write_float.proofs.write.write_value.Reads as reads
+use Rattle.lexical_write_float.proofs.write.write_value.Lts as lts
+use Rattle.lexical_util.proofs.base_exponent.Reads as base-exponent-reads
+use Rattle.lexical_util.proofs.digit_exponent.Reads as digit-exponent-reads
+use Rattle.lexical_util.proofs.sci_exp.Reads as sci-exp-reads
+use Rattle.lexical_write_float.proofs.hex.write_with_exponent.Reads as write-with-exponent-reads
+use Rattle.lexical_write_float.proofs.plan.write_plan.Reads as write-plan-reads
+use Rattle.lexical_write_float.proofs.shared.choose_layout.Reads as choose-layout-reads
+use Rattle.lexical_write_float.proofs.write.digits_of.Reads as digits-of-reads
+use Rattle.lexical_write_float.proofs.write.digits_so_far.Reads as digits-so-far-reads
+use Rattle.lexical_write_float.proofs.write.plan_of.Reads as plan-of-reads
+
+abbrev start : tie.After-digit-exponent → tie.Start
+start c = c .before .before .before
+
+format-known : (s : tie.Start) → Known (s .args .format) (s .args .options) (s .args .checked)
+format-known s = known _ _ _ (s .pre .0)
+
+place-is : (c : tie.After-digit-exponent) → c .digit-exponent .result .0 ≡ place (start c .args .checked .b) (scale (start c .args .value .mantissa) (start c .args .value .exponent))
+place-is c = c .digit-exponent .ensures .0 ∙ ap (place (start c .args .checked .b)) (c .before .sci-exp .ensures .0)
+
+near : (c : tie.After-digit-exponent) → natAbs (c .digit-exponent .result .0) ≤ 1074
+near c = let s = start c in rw (place-is c) (place-near (s .args .checked .b) (scale (s .args .value .mantissa) (s .args .value .exponent)) (s .pre .1 .near))
+
+-- the text that the plan stands for
+abbrev whole : tie.Start → List ℕ
+whole s = text (s .args .format) (s .args .options) (rowOf (s .args .checked)) (s .args .value .mantissa) (s .args .value .exponent)
+
+abbrev body : tie.After-plan-of → List ℕ
+body c = let d = c .before .before .before in let a = start (d .before) .args in planText (point (a .format) (a .options)) (c .plan-of .result) (digitsOf (d .digits-of .result))
+
+planned : (c : tie.After-plan-of) → let d = c .before .before .before in let a = start (d .before) .args in
+    body c ≡ bodyText (a .format) (a .options) (d .before .digit-exponent .result .0) (c .before .before .digits-so-far .result) (c .before .choose-layout .result) (digitsOf (d .digits-of .result))
+planned c = c .plan-of .ensures .is _ (sym (c .before .before .before .digits-of .ensures .1 .count-is))
+
+laid : (c : tie.After-plan-of) → let d = c .before .before .before in let a = start (d .before) .args in
+    IsLaid (a .format) (a .options) (a .checked) (a .value .mantissa) (a .value .exponent) (digitsOf (d .digits-of .result)) (d .before .digit-exponent .result .0) (c .before .before .digits-so-far .result) (c .before .choose-layout .result)
+laid c =
+    let d = c .before .before .before in
+    let s = start (d .before) in
+    let a = s .args in
+    let K = format-known s in
+    record {
+      digits-are = d .digits-of .ensures .0;
+      place-is = place-is (d .before);
+      so-far-is = c .before .before .digits-so-far .ensures (a .format) (a .options) _ (sym (d .digits-of .ensures .1 .count-is));
+      layout-is = c .before .choose-layout .ensures (a .options) (K .low) (K .high) ∙ ap (layoutOf (a .format) (a .options)) (d .before .before .sci-exp .ensures .0);
+    }
+
+-- src/write.rt:92:9
+sci-exp-requires : tie.Need-sci-exp-requires
+sci-exp-requires c κs = search needs
+
+-- src/write.rt:93:9
+digit-exponent-requires : tie.Need-digit-exponent-requires
+digit-exponent-requires c κs = search needs
+
+-- src/write.rt:94:9
+digits-of-requires : tie.Need-digits-of-requires
+digits-of-requires c κs = let s = start c in let K = format-known s in (K .radix-is, K .some-bits, K .few-bits, s .pre .1 .few)
+
+-- src/write.rt:95:9
+digits-so-far-requires : tie.Need-digits-so-far-requires
+digits-so-far-requires c κs = search needs
+
+-- src/write.rt:96:9
+choose-layout-requires : tie.Need-choose-layout-requires
+choose-layout-requires c κs = search needs
+
+-- src/write.rt:97:9
+plan-of-requires : tie.Need-plan-of-requires
+plan-of-requires c κs =
+    let d = c .before .before in
+    let s = start (d .before) in
+    (counted-some _ (d .digits-of .ensures .1), near (d .before), format-known s .few-least)
+
+-- src/write.rt:100:17
+enum-told : tie.Need-enum-told
+enum-told c = search needs
+
+-- src/write.rt:100:17
+base-exponent-requires : tie.Need-base-exponent-requires
+base-exponent-requires c κs = search needs
+
+-- src/write.rt:101:13
+write-with-exponent-requires : tie.Need-write-with-exponent-requires
+write-with-exponent-requires c κs =
+    let b = c .before in
+    let p = b .before .before .before in
+    let d = p .before .before .before in
+    let s = start (d .before) in
+    (d .digits-of .ensures .1, p .plan-of .ensures .small, format-known s .power-radix, rw (b .base-exponent .ensures .1 .0) (power-few (s .args .checked .b) (s .args .checked .c) (d .before .digit-exponent .result .0) (format-known s .few-bits) (near (d .before))))
+
+-- src/write.rt:103:77
+enum-told-2 : tie.Need-enum-told-2
+enum-told-2 c = search needs
+
+-- src/write.rt:103:29
+write-plan-requires : tie.Need-write-plan-requires
+write-plan-requires c κs = let p = c .before .before .before in (p .before .before .before .digits-of .ensures .1, p .plan-of .ensures .small)
+
+-- src/write.rt:104:77
+enum-told-3 : tie.Need-enum-told-3
+enum-told-3 c = search needs
+
+-- src/write.rt:104:29
+write-plan-requires-2 : tie.Need-write-plan-requires-2
+write-plan-requires-2 c κs = let p = c .before .before .before in (p .before .before .before .digits-of .ensures .1, p .plan-of .ensures .small)
+
+-- src/write.rt:81:1
+same-length : tie.Need-same-length
+same-length c = search needs
+
+-- src/write.rt:81:1
+returns : tie.Need-returns
+returns c =
+    let w = c .before .before in
+    let b = w .before .before in
+    let p = b .before .before .before in
+    let d = p .before .before .before in
+    let s = start (d .before) in
+    let a = s .args in
+    let place = d .before .digit-exponent .result .0 in
+    let tail : powerText (a .options .exponent) (b .base-exponent .result .0) (a .format .«required_exponent_sign») (a .format .«exponent_radix») (b .base-exponent .result .1) ≡ exponentText (a .format) (a .options) (rowOf (a .checked)) place = rw (b .base-exponent .ensures .0, b .base-exponent .ensures .1 .0) (power-is (a .format) (a .options) (rowOf (a .checked)) place) in
+    let same = ap₂ {A = List ℕ} {B = List ℕ} {C = List ℕ} (λ x y. x ++ y) (planned p) tail ∙ laid-scientific _ _ _ _ _ _ _ _ _ (laid p) (b .before .enum-told .given .1) in
+    (w .write-with-exponent .ensures .0 ∙ ap (λ (t : List ℕ). written (done t) (a .buffer .now)) same, w .write-with-exponent .ensures .1 ∙ ap (λ (t : List ℕ). held (done t) (a .buffer .now)) same)
+
+-- src/write.rt:81:1
+same-length-2 : tie.Need-same-length-2
+same-length-2 c = search needs
+
+-- src/write.rt:81:1
+returns-2 : tie.Need-returns-2
+returns-2 c =
+    let w = c .before .before in
+    let p = w .before .before .before .before in
+    let s = start (p .before .before .before .before) in
+    let same : body p ≡ whole s = planned p ∙ laid-negative _ _ _ _ _ _ _ _ _ (laid p) (w .before .before .enum-told2 .given .1) in
+    (w .write-plan .ensures .0 ∙ ap (λ (t : List ℕ). written (done t) (s .args .buffer .now)) same, w .write-plan .ensures .1 ∙ ap (λ (t : List ℕ). held (done t) (s .args .buffer .now)) same)
+
+-- src/write.rt:81:1
+same-length-3 : tie.Need-same-length-3
+same-length-3 c = search needs
+
+-- src/write.rt:81:1
+returns-3 : tie.Need-returns-3
+returns-3 c =
+    let w = c .before .before in
+    let p = w .before .before .before .before in
+    let s = start (p .before .before .before .before) in
+    let same : body p ≡ whole s = planned p ∙ laid-positive _ _ _ _ _ _ _ _ _ (laid p) (w .before .before .enum-told3 .given .1) in
+    (w .write-plan2 .ensures .0 ∙ ap (λ (t : List ℕ). written (done t) (s .args .buffer .now)) same, w .write-plan2 .ensures .1 ∙ ap (λ (t : List ℕ). held (done t) (s .args .buffer .now)) same)
+
+pub write-value-spec : {M : Type 1} → statement M
+write-value-spec =
+    tie.close
+    (tie.spec
+    sci-exp-requires
+    digit-exponent-requires
+    digits-of-requires
+    digits-so-far-requires
+    choose-layout-requires
+    plan-of-requires
+    enum-told
+    base-exponent-requires
+    write-with-exponent-requires
+    enum-told-2
+    write-plan-requires
+    enum-told-3
+    write-plan-requires-2
+    same-length
+    returns
+    same-length-2
+    returns-2
+    same-length-3
+    returns-3)

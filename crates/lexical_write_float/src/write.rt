@@ -1,0 +1,125 @@
+// Writing a float, in place of the Rust's two `write_float`, of binary.rs for equal pairs and of hex.rs for mixed ones: one body over the parts for both widths and all ten pairs.
+ghost use mathlib.Core.Path.{_≡_};
+ghost use mathlib.Core.List.{List};
+ghost use Prim.Native.Nat.{ℕ, _^_, _≤_, _<_};
+ghost use lib.IntN.{natAbs};
+ghost use lib.ListN.{length};
+ghost use Rattle.lexical_util.specs.Answer.{done, written, held, ofWritten};
+ghost use Rattle.lexical_format.specs.declared.format.NumberFormat.{NumberFormat};
+ghost use Rattle.lexical_format.specs.declared.options.Options.{Options};
+ghost use Rattle.lexical_write_float.specs.Value.{exactDigits};
+ghost use Rattle.lexical_write_float.specs.Text.{point, least, digitsSoFar, text};
+ghost use Rattle.lexical_write_float.specs.Code.{Ranged, FloatParts, Passed, rowOf, Counted, digitsOf, IsPlan, bodyText, magnitudeText};
+use crate::binary::calculate_shl;
+use crate::binary::normalized;
+use crate::binary::truncate_and_round;
+use crate::binary::write_float_negative_exponent;
+use crate::binary::write_float_positive_exponent;
+use crate::hex::write_float_scientific;
+use crate::hex::write_with_exponent;
+use crate::layout::Layout;
+use crate::plan::Digits;
+use crate::plan::Plan;
+use crate::plan::write_plan;
+use crate::shared::choose_layout;
+use lexical_format::CheckedFormat;
+use lexical_format::NumberFormat;
+use lexical_format::Options;
+use lexical_util::DigitExponent;
+use lexical_util::Magnitude;
+use lexical_util::Written;
+use lexical_util::base_exponent;
+use lexical_util::digit_exponent;
+use lexical_util::sci_exp;
+use lexical_util::unsigned_abs;
+
+// D of a value: the mantissa is shifted up by e mod b, and what is left of e is a whole number of digits.
+fn digits_of(value: Magnitude, bits_per_digit: u32, radix: u32) -> Digits
+    requires { ⌜ (radix ≡ 2 ^ «bits_per_digit») × (0 < «bits_per_digit») × («bits_per_digit» ≤ 5) × (value .mantissa < 2 ^ 54) ⌝ }
+    ensures { λ r. ⌜ (digitsOf r ≡ exactDigits «bits_per_digit» (value .mantissa) (value .exponent)) × Counted r ⌝ }
+{
+    let shl = calculate_shl(value.exponent as i32, bits_per_digit);
+    let shifted = value.mantissa << shl;
+    Digits {
+        value: shifted,
+        bits_per_digit,
+        count: lexical_write_integer::digit_count(shifted, radix),
+    }
+}
+
+// The length of D plus one, for zero 1: the digits so far where zeros filled the places of the positive layout.
+fn digits_so_far(mantissa: u64, count: usize) -> usize
+    requires { ⌜ count ≤ 64 ⌝ }
+    ensures { λ r. ⌜ ((F : NumberFormat) (o : Options) (D : List ℕ) → length D ≡ count → r ≡ digitsSoFar F o mantissa D) ⌝ }
+{
+    if mantissa == 0 { 1 } else { count + 1 }
+}
+
+// The plan of a layout, by one of three functions.
+fn plan_of(
+    layout: Layout,
+    count: usize,
+    p: DigitExponent,
+    so_far: usize,
+    format: NumberFormat,
+    options: Options,
+) -> Plan
+    requires { ⌜ (0 < count) × (natAbs (p .0) ≤ 1074) × (least format options ≤ 1200) ⌝ }
+    ensures { λ r. ⌜ IsPlan (point format options) count (bodyText format options (p .0) «so_far» layout) r ⌝ }
+{
+    match layout {
+        Layout::Scientific => write_float_scientific(count, format, options),
+        Layout::Negative => write_float_negative_exponent(count, p, options),
+        Layout::Positive => {
+            let places = unsigned_abs(p.0) as usize + 1;
+            write_float_positive_exponent(count, places, so_far, options)
+        }
+    }
+}
+
+// The text of a value in normal form.
+fn write_value(
+    value: Magnitude,
+    format: NumberFormat,
+    options: Options,
+    checked: CheckedFormat,
+    buffer: &mut [u8],
+) -> Written
+    requires { ⌜ Passed format options checked × Ranged (value .mantissa) (value .exponent) ⌝ }
+    ensures { λ r. ⌜ ofWritten r ≡ written (done (text format options (rowOf checked) (value .mantissa) (value .exponent))) (now (buffer .entry)) ⌝ }
+    ensures { λ _. ⌜ now (buffer .exit) ≡ held (done (text format options (rowOf checked) (value .mantissa) (value .exponent))) (now (buffer .entry)) ⌝ }
+{
+    let s = sci_exp(value);
+    let p = digit_exponent(s, checked.b);
+    let digits = digits_of(value, checked.b, format.mantissa_radix);
+    let so_far = digits_so_far(value.mantissa, digits.count);
+    let layout = choose_layout(format, checked, s);
+    let plan = plan_of(layout, digits.count, p, so_far, format, options);
+    match layout {
+        Layout::Scientific => {
+            let exponent = base_exponent(p, checked.b, checked.c);
+            write_with_exponent(digits, plan, exponent, format, options, buffer)
+        }
+        Layout::Negative => write_plan(digits, plan, options.decimal_point, buffer),
+        Layout::Positive => write_plan(digits, plan, options.decimal_point, buffer),
+    }
+}
+
+// The text of a finite float with the sign bit clear, by its parts.
+fn write_float(
+    value: Magnitude,
+    format: NumberFormat,
+    options: Options,
+    checked: CheckedFormat,
+    buffer: &mut [u8],
+) -> Written
+    requires { ⌜ Passed format options checked × FloatParts value ⌝ }
+    ensures { λ r. ⌜ ofWritten r ≡ written (done (magnitudeText format options checked value)) (now (buffer .entry)) ⌝ }
+    ensures { λ _. ⌜ now (buffer .exit) ≡ held (done (magnitudeText format options checked value)) (now (buffer .entry)) ⌝ }
+{
+    let exact = normalized(value);
+    let digits = options.max_significant_digits;
+    let mode = options.round_mode;
+    let limited = truncate_and_round(exact, checked.b, digits, mode);
+    write_value(limited, format, options, checked, buffer)
+}
