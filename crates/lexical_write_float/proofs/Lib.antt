@@ -9,4 +9,5 @@ pub mod WriteLaws
 pub mod PutLaws
 pub mod PlanLaws
 pub mod TextLaws
+pub mod AnswerLaws
 pub mod Starred

@@ -7,9 +7,11 @@ use lib.Dec.{T}
 use lib.IntN.{ℤ, pos, negsuc, natAbs}
 use lib.ListN.{length, take, drop}
 use lib.Ieee.{Format, fin, fits}
-use Rattle.lexical_util.specs.Answer.{done}
+use Rattle.lexical_util.specs.Answer.{Answer, done, refused}
 use Rattle.lexical_util.specs.Num.{scale}
 use Rattle.lexical_util.specs.declared.num.Magnitude.{Magnitude}
+use Rattle.lexical_util.specs.declared.num.Parts.{Parts}
+use Rattle.lexical_util.specs.declared.num.Parts.the-variants as parts
 use Rattle.lexical_write_integer.specs.Digits.{numeral}
 use Rattle.lexical_format.specs.declared.checks.CheckedFormat.{CheckedFormat}
 use Rattle.lexical_format.specs.declared.format.Pair.{Pair}
@@ -114,3 +116,14 @@ pub record Puts (held : List ℕ) (at : ℕ) (t : List ℕ) (next : ℕ) (out : 
 -- ---- the text of a magnitude: of the float that has it
 abbrev pub magnitudeText : NumberFormat → Options → CheckedFormat → Magnitude → List ℕ
 magnitudeText F o checked v = let x = normal (v .mantissa) (v .exponent) in limitedText F o (rowOf checked) (x .m) (x .e)
+
+-- what the parts of a float are asked for: 7 for all but a finite float with the sign bit clear
+abbrev pub partsText : NumberFormat → Options → CheckedFormat → Parts → Answer (List ℕ)
+partsText F o checked (parts.Plain v) = done (magnitudeText F o checked v)
+partsText F o checked (parts.Negative v) = refused 7 0
+partsText F o checked parts.Special = refused 7 0
+
+abbrev pub FloatsParts : Parts → Type 0
+FloatsParts (parts.Plain v) = FloatParts v
+FloatsParts (parts.Negative v) = Unit {0}
+FloatsParts parts.Special = Unit {0}

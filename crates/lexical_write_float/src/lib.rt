@@ -8,3 +8,5 @@ mod shared;
 mod write;
 
 pub use layout::Layout;
+pub use write::write_f32;
+pub use write::write_f64;

@@ -9,7 +9,8 @@ ghost use Rattle.lexical_format.specs.declared.format.NumberFormat.{NumberForma
 ghost use Rattle.lexical_format.specs.declared.options.Options.{Options};
 ghost use Rattle.lexical_write_float.specs.Value.{exactDigits};
 ghost use Rattle.lexical_write_float.specs.Text.{point, least, digitsSoFar, text};
-ghost use Rattle.lexical_write_float.specs.Code.{Ranged, FloatParts, Passed, rowOf, Counted, digitsOf, IsPlan, bodyText, magnitudeText};
+ghost use Rattle.lexical_write_float.specs.Code.{Ranged, FloatParts, Passed, rowOf, Counted, digitsOf, IsPlan, bodyText, magnitudeText, partsText, FloatsParts};
+ghost use Rattle.lexical_write_float.specs.Write.{writeText, NoLonger, NeverRefused};
 use crate::binary::calculate_shl;
 use crate::binary::normalized;
 use crate::binary::truncate_and_round;
@@ -25,8 +26,11 @@ use crate::shared::choose_layout;
 use lexical_format::CheckedFormat;
 use lexical_format::NumberFormat;
 use lexical_format::Options;
+use lexical_format::WritingCheck;
 use lexical_util::DigitExponent;
 use lexical_util::Magnitude;
+use lexical_util::Parts;
+use lexical_util::Refusal;
 use lexical_util::Written;
 use lexical_util::base_exponent;
 use lexical_util::digit_exponent;
@@ -122,4 +126,58 @@ fn write_float(
     let mode = options.round_mode;
     let limited = truncate_and_round(exact, checked.b, digits, mode);
     write_value(limited, format, options, checked, buffer)
+}
+
+// The text of a float by its parts; 7 where it is not finite, or its sign bit is set.
+fn write_parts(
+    parts: Parts,
+    format: NumberFormat,
+    options: Options,
+    checked: CheckedFormat,
+    buffer: &mut [u8],
+) -> Written
+    requires { ⌜ Passed format options checked × FloatsParts parts ⌝ }
+    ensures { λ r. ⌜ ofWritten r ≡ written (partsText format options checked parts) (now (buffer .entry)) ⌝ }
+    ensures { λ _. ⌜ now (buffer .exit) ≡ held (partsText format options checked parts) (now (buffer .entry)) ⌝ }
+{
+    match parts {
+        Parts::Plain(value) => write_float(value, format, options, checked, buffer),
+        Parts::Negative(_) => Written::Refused(Refusal {
+            number: 7,
+            place: 0,
+        }),
+        Parts::Special => Written::Refused(Refusal {
+            number: 7,
+            place: 0,
+        }),
+    }
+}
+
+// The text of a float under a format, or a refusal, which leaves every byte as it was.
+pub fn write_f64(x: f64, format: NumberFormat, options: Options, buffer: &mut [u8]) -> Written
+    ensures { λ r. ⌜ ofWritten r ≡ written (writeText format options x) (now (buffer .entry)) ⌝ }
+    ensures { λ _. ⌜ now (buffer .exit) ≡ held (writeText format options x) (now (buffer .entry)) ⌝ }
+    ensures longest { λ r. ⌜ NoLonger (ofWritten r) ⌝ }
+    ensures served { λ r. ⌜ NeverRefused format options x (now (buffer .entry)) (ofWritten r) ⌝ }
+{
+    match lexical_format::check(format, options) {
+        WritingCheck::Passed(checked) => {
+            write_parts(lexical_util::parts_f64(x), format, options, checked, buffer)
+        }
+        WritingCheck::Refused(refusal) => Written::Refused(refusal),
+    }
+}
+
+pub fn write_f32(x: f32, format: NumberFormat, options: Options, buffer: &mut [u8]) -> Written
+    ensures { λ r. ⌜ ofWritten r ≡ written (writeText format options x) (now (buffer .entry)) ⌝ }
+    ensures { λ _. ⌜ now (buffer .exit) ≡ held (writeText format options x) (now (buffer .entry)) ⌝ }
+    ensures longest { λ r. ⌜ NoLonger (ofWritten r) ⌝ }
+    ensures served { λ r. ⌜ NeverRefused format options x (now (buffer .entry)) (ofWritten r) ⌝ }
+{
+    match lexical_format::check(format, options) {
+        WritingCheck::Passed(checked) => {
+            write_parts(lexical_util::parts_f32(x), format, options, checked, buffer)
+        }
+        WritingCheck::Refused(refusal) => Written::Refused(refusal),
+    }
 }
