@@ -118,26 +118,30 @@ pub between-wider : (least most least′ most′ : ℕ) (e : ℤ) → least ≤ 
 between-wider least most least′ most′ (pos n) p q h = omega arith
 between-wider least most least′ most′ (negsuc n) p q h = omega arith
 
--- ---- the exponent of a mantissa of 64 bits and a count of its bits, as the code adds them at 16
+-- ---- an exponent of 16 bits, up to 64 higher
 near-fits : (z : ℤ) → Between 8000 8064 z → SFits w16 z
 near-fits (pos n) h = record { sfits = omega arith }
 near-fits (negsuc n) h = record { sfits = omega arith }
 
+-- as the code hands it on
+pub stored-is : (e : ℤ) → Between 8000 8000 e → toZ w16 (ofZ w16 e) ≡ e
+stored-is e h = toZ-ofZ (near-fits e (between-wider 8000 8000 8000 8064 e (omega arith) (omega arith) h))
+
 module _ (e : ℤ) (n : ℕ) (h : Between 8000 8000 e) (l : n ≤ 64) where
-  abbrev coded-sum : ℤ
-  coded-sum = toZ w16 (ofZ w16 e) +ℤ toZ w16 n
+  higher-fits : SFits w16 (e +ℤ pos n)
+  higher-fits = near-fits (e +ℤ pos n) (between-wider 8000 (8000 + n) 8000 8064 (e +ℤ pos n) (omega arith) (omega arith) (between-more 8000 8000 n e h))
 
-  coded-is : coded-sum ≡ e +ℤ pos n
-  coded-is = rw (toZ-ofZ (near-fits e (between-wider 8000 8000 8000 8064 e (omega arith) (omega arith) h)), toZ-pos w16 {n = n} (omega arith))
+  sum-is : toZ w16 (ofZ w16 e) +ℤ toZ w16 n ≡ e +ℤ pos n
+  sum-is = rw (stored-is e h, toZ-pos w16 {n = n} (omega arith))
 
-  pub sum-fits : SFits w16 coded-sum
-  sum-fits = rw coded-is (near-fits (e +ℤ pos n) (between-wider 8000 (8000 + n) 8000 8064 (e +ℤ pos n) (omega arith) (omega arith) (between-more 8000 8000 n e h)))
+  pub sum-fits : SFits w16 (toZ w16 (ofZ w16 e) +ℤ toZ w16 n)
+  sum-fits = rw sum-is higher-fits
 
-  pub sum-is : toZ w16 (ofZ w16 coded-sum) ≡ e +ℤ pos n
-  sum-is = toZ-ofZ sum-fits ∙ coded-is
+  pub sum-stored : toZ w16 (ofZ w16 (toZ w16 (ofZ w16 e) +ℤ toZ w16 n)) ≡ e +ℤ pos n
+  sum-stored = rw sum-is (toZ-ofZ higher-fits)
 
--- and a sum that may stand there again
-pub near-sum : (e : ℤ) (n : ℕ) → Between 4000 4000 e → n ≤ 64 → Between 8000 8000 (toZ w16 (ofZ w16 (toZ w16 (ofZ w16 e) +ℤ toZ w16 n)))
-near-sum e n h l =
-    rw (sum-is e n (between-wider 4000 4000 8000 8000 e (omega arith) (omega arith) h) l)
-    (between-wider 4000 (4000 + n) 8000 8000 (e +ℤ pos n) (omega arith) (omega arith) (between-more 4000 4000 n e h))
+  pub raised-stored : (r : ℤ) → r ≡ toZ w16 (ofZ w16 e) +ℤ pos n → toZ w16 (ofZ w16 r) ≡ e +ℤ pos n
+  raised-stored r k = rw (k, stored-is e h) (toZ-ofZ higher-fits)
+
+pub raised-near : (e : ℤ) (n : ℕ) → Between 4000 4000 e → n ≤ 64 → Between 8000 8000 (e +ℤ pos n)
+raised-near e n h l = between-wider 4000 (4000 + n) 8000 8000 (e +ℤ pos n) (omega arith) (omega arith) (between-more 4000 4000 n e h)

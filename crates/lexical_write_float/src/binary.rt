@@ -1,11 +1,11 @@
-// Derived from `calculate_shl` and `truncate_and_round` of lexical-write-float/src/binary.rs, changed: the unit of a digit limit is aligned with the digits, and a value comes back in normal form, so that a carry needs no count of its own.
+// Derived from lexical-write-float/src/binary.rs, changed: the unit of a digit limit is aligned with the digits; a value comes back in normal form, so that a carry needs no count of its own; and a layout answers a plan, which is measured before it is written.
 ghost use mathlib.Core.Path.{_≡_};
-ghost use Prim.Native.Nat.{_+_, _-_, _*_, _%_, _^_, _≤_, _<_, ℕ};
+ghost use Prim.Native.Nat.{ℕ, _+_, _-_, _*_, _%_, _^_, _≤_, _<_};
 ghost use Rattle.lexical_write_float.specs.Value.{modulo, normal};
 ghost use Rattle.lexical_write_float.specs.Limit.{rounded, limited};
 ghost use Rattle.lexical_write_float.specs.Code.{ofMagnitude, Between, IsPlan};
 ghost use mathlib.Core.List.{List};
-ghost use lib.IntN.{natAbs};
+ghost use lib.IntN.{pos, natAbs, _+ℤ_};
 ghost use Rattle.lexical_format.specs.declared.format.NumberFormat.{NumberFormat};
 ghost use Rattle.lexical_write_float.specs.Text.{point, least, negative, positive};
 use crate::plan::Plan;
@@ -40,11 +40,20 @@ pub(crate) fn calculate_shl(exponent: i32, bits_per_digit: u32) -> u32
 {
     let magnitude = unsigned_abs(exponent);
     if exponent < 0 {
+        // The remainder of -1 - exponent, counted from the other end.
         let last = bits_per_digit - 1;
         let rest = remainder(magnitude - 1, bits_per_digit);
         return last - rest;
     }
     remainder(magnitude, bits_per_digit)
+}
+
+// The exponent of a mantissa that lost so many low bits.
+fn raised(exponent: i16, bits: u32) -> i16
+    requires { ⌜ Between 8000 8000 exponent × (bits ≤ 64) ⌝ }
+    ensures { λ r. ⌜ r ≡ exponent +ℤ pos bits ⌝ }
+{
+    exponent + bits as i16
 }
 
 // The normal form of a value: the mantissa odd, or both zero.
@@ -61,10 +70,10 @@ pub(crate) fn normalized(value: Magnitude) -> Magnitude
         };
     }
     let zeros = u64::trailing_zeros(mantissa);
-    let lift = zeros as i16;
+    let odd = mantissa >> zeros;
     Magnitude {
-        mantissa: mantissa >> zeros,
-        exponent: exponent + lift,
+        mantissa: odd,
+        exponent: raised(exponent, zeros),
     }
 }
 
@@ -128,7 +137,7 @@ pub(crate) fn truncate_and_round(
     let units = round_to_units(mantissa, cut, mode);
     normalized(Magnitude {
         mantissa: units,
-        exponent: exponent + cut as i16,
+        exponent: raised(exponent, cut),
     })
 }
 

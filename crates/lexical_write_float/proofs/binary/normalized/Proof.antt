@@ -6,7 +6,7 @@ use native.Mathlib.Omega.{arith}
 use borrow.Author.Needs.{needs}
 use lib.Count.{trailingZeros}
 use lib.IntN.{ℤ}
-use Rattle.lexical_write_float.proofs.Integers.{sum-fits, sum-is}
+use Rattle.lexical_write_float.proofs.Integers.{stored-is, raised-stored}
 use Rattle.lexical_write_float.proofs.ValueLaws.{trailing-lt, normal-trailing, normal-zero}
 use Rattle.lexical_write_float.proofs.binary.normalized.Statement.{statement}
 use Rattle.lexical_write_float.proofs.binary.normalized.Tie as tie
@@ -17,28 +17,22 @@ few c = trailing-lt 64 (c .before .before .args .value .mantissa) (pos-of-ne-zer
 returns : tie.Need-returns
 returns c = normal-zero (c .before .before .args .value .mantissa) _ (c .if1 .taken)
 
-cast-lift : tie.Need-cast-lift
-cast-lift c = record { sfits = omega (arith, few c) }
+cast-odd : tie.Need-cast-odd
+cast-odd c = record { fits = omega (arith, few c) }
 
-cast-t7 : tie.Need-cast-t7
-cast-t7 c = record { fits = omega (arith, few c) }
+shr-odd : tie.Need-shr-odd
+shr-odd c = few c
 
-shr-t8 : tie.Need-shr-t8
-shr-t8 c = few c
-
-add-t9 : tie.Need-add-t9
-add-t9 c =
-    let s = c .before .before in
-    let v = s .args .value in
-    sum-fits (v .exponent) (trailingZeros 64 (v .mantissa)) (s .pre) (omega (arith, few c))
+raised-requires : tie.Need-raised-requires
+raised-requires c κs = let s = c .before .before in (rw (stored-is (s .args .value .exponent) (s .pre)) (s .pre), omega (arith, few c))
 
 returns-2 : tie.Need-returns-2
 returns-2 c =
-    let s = c .before .before in
+    let s = c .before .before .before in
     let v = s .args .value in
     let t = trailingZeros 64 (v .mantissa) in
-    ap (λ (e : ℤ). record { m = v .mantissa / 2 ^ t; e = e }) (sum-is (v .exponent) t (s .pre) (omega (arith, few c)))
-    ∙ normal-trailing 64 (v .mantissa) (pos-of-ne-zero (c .if1 .left)) (search needs) (v .exponent)
+    ap (λ (e : ℤ). record { m = v .mantissa / 2 ^ t; e = e }) (raised-stored (v .exponent) t (s .pre) (omega (arith, few (c .before))) _ (c .raised .ensures))
+    ∙ normal-trailing 64 (v .mantissa) (pos-of-ne-zero (c .before .if1 .left)) (search needs) (v .exponent)
 
 pub normalized-spec : {M : Type 1} → statement M
-normalized-spec = tie.close (tie.spec returns cast-lift cast-t7 shr-t8 add-t9 returns-2)
+normalized-spec = tie.close (tie.spec returns cast-odd shr-odd raised-requires returns-2)

@@ -4,14 +4,16 @@ use mathlib.Core.Path.{_≡_, sym, ap, ap₂, _∙_}
 use native.Mathlib.Nat.{pos-of-ne-zero}
 use native.Mathlib.Omega.{arith}
 use borrow.Author.Needs.{needs}
-use lib.IntN.{ℤ}
+use lib.IntN.{ℤ, pos, _+ℤ_}
+use mir.Syntax.{w16}
+use mir.Val.{toZ, ofZ}
 use lib.Ieee.{size}
 use lib.Ieee.Digits.{size-le}
 use Rattle.lexical_util.specs.Num.{scale}
 use Rattle.lexical_util.proofs.PowerLaws.{size-pos}
 use Rattle.lexical_write_float.specs.Value.{normal, modulo}
 use Rattle.lexical_write_float.specs.Code.{Between}
-use Rattle.lexical_write_float.proofs.Integers.{between-wider, sum-fits, sum-is, near-sum}
+use Rattle.lexical_write_float.proofs.Integers.{between-wider, stored-is, raised-stored, raised-near}
 use Rattle.lexical_write_float.proofs.LimitLaws.{limited-none, limited-zero, kept, limited-kept, limited-cut}
 use Rattle.lexical_write_float.proofs.binary.truncate_and_round.Statement.{statement}
 use Rattle.lexical_write_float.proofs.binary.truncate_and_round.Tie as tie
@@ -40,6 +42,9 @@ few c = omega (arith, bits c)
 
 near : (c : tie.Start) → Between 8000 8000 (c .args .value .exponent)
 near c = between-wider 4000 4000 8000 8000 (c .args .value .exponent) (omega arith) (omega arith) (c .pre .1)
+
+higher : (c : tie.After-raised) → let g = c .before .before .before in toZ w16 (ofZ w16 (c .raised .result)) ≡ start (g .before) .args .value .exponent +ℤ pos (cut g)
+higher c = let g = c .before .before .before in let s = start (g .before) in raised-stored (s .args .value .exponent) (cut g) (near s) (few g) _ (c .raised .ensures)
 
 returns : tie.Need-returns
 returns c = let a = c .before .before .args in limited-none (a .mode) (a .bits-per-digit) (a .digits) (a .value .mantissa) (a .value .exponent) (c .if1 .taken)
@@ -75,22 +80,18 @@ sub-cut c = search needs
 round-to-units-requires : tie.Need-round-to-units-requires
 round-to-units-requires c κs = (omega arith, omega (arith, bits (c .before)))
 
-cast-t14 : tie.Need-cast-t14
-cast-t14 c = search needs
-
-add-t15 : tie.Need-add-t15
-add-t15 c = let g = c .before .before in let s = start (g .before) in sum-fits (s .args .value .exponent) (cut g) (near s) (few g)
+raised-requires : tie.Need-raised-requires
+raised-requires c κs = let g = c .before .before in let s = start (g .before) in (rw (stored-is (s .args .value .exponent) (near s)) (near s), omega (arith, bits g))
 
 normalized-requires-2 : tie.Need-normalized-requires-2
-normalized-requires-2 c κs = let g = c .before .before in let s = start (g .before) in near-sum (s .args .value .exponent) (cut g) (s .pre .1) (few g)
+normalized-requires-2 c κs = let g = c .before .before .before in let s = start (g .before) in rw (higher c) (raised-near (s .args .value .exponent) (cut g) (s .pre .1) (few g))
 
 returns-4 : tie.Need-returns-4
 returns-4 c =
-    let g = c .before .before .before in
-    let s = start (g .before) in
-    let a = s .args in
+    let g = c .before .before .before .before in
+    let a = start (g .before) .args in
     c .normalized2 .ensures
-    ∙ ap₂ normal (c .before .round-to-units .ensures) (sum-is (a .value .exponent) (cut g) (near s) (few g))
+    ∙ ap₂ normal (c .before .before .round-to-units .ensures) (higher (c .before))
     ∙ sym (limited-cut (a .mode) (a .bits-per-digit) (a .digits) (a .value .mantissa) (a .value .exponent) (omega arith) (omega arith) (some (g .before)) (g .before .kept-bits .result) (keep-is (g .before)) (cut g) (omega (arith, bits g)) (omega arith))
 
 pub truncate-and-round-spec : {M : Type 1} → statement M
@@ -107,7 +108,6 @@ truncate-and-round-spec =
     returns-3
     sub-cut
     round-to-units-requires
-    cast-t14
-    add-t15
+    raised-requires
     normalized-requires-2
     returns-4)
