@@ -1,6 +1,6 @@
 -- What the digits calls answer and leave in the lent bytes, in each of their cases. Assumes nothing.
 use Prim.Native.Nat.{ℕ, _≤_, _<_}
-use mathlib.Core.Path.{_≡_, refl, sym, _∙_}
+use mathlib.Core.Path.{_≡_, refl, sym}
 use mathlib.Core.Bool.{true, false}
 use mathlib.Core.List.{List, _++_}
 use lib.ListN.{length, drop}
@@ -8,7 +8,8 @@ use Rattle.lexical_util.specs.Answer.{done, refused, written, held}
 use Rattle.lexical_util.specs.Digit.{isRadix}
 use Rattle.lexical_util.proofs.AnswerLaws.{text-fits, text-short}
 use Rattle.lexical_util.proofs.RadixLaws.{radix-bounds}
-use Rattle.lexical_write_integer.specs.Digits.{digits, lastNumeral}
+use Rattle.lexical_write_integer.specs.Digits.{digits}
+use Rattle.lexical_write_integer.specs.Code.{lastNumeral}
 use Rattle.lexical_write_integer.specs.Write.{digitsText, digitCount}
 use Rattle.lexical_write_integer.proofs.LastLaws.{length-last, numeral-last}
 

@@ -1,13 +1,12 @@
 -- The last digits of a number, as bytes: a number's own digits are its last ones, and its last ones are the last of its quotient and then more. Assumes nothing.
-use Prim.Native.Nat.{ℕ, zero, suc, _+_, _/_, _%_, _^_, _≤_, _<_}
-use mathlib.Core.Path.{_≡_, refl, sym, ap, _∙_}
-use mathlib.Core.List.{List, [], _∷_, _++_, append-assoc, append-nil}
+use Prim.Native.Nat.{ℕ, zero, suc, _+_, _/_, _^_, _≤_, _<_}
+use mathlib.Core.Path.{_≡_, refl}
+use mathlib.Core.List.{_++_, append-assoc, append-nil}
 use native.Mathlib.Nat.{add-zero, add-suc, div-one, div-div-eq-div-mul, pow-zero, pow-suc, mul-comm, mod-eq-of-lt}
 use native.Mathlib.Numerals.{add-one}
-use native.Mathlib.Omega.{arith}
 use lib.ListN.{length, length-append}
-use Rattle.lexical_util.specs.Digit.{digitByte}
-use Rattle.lexical_write_integer.specs.Digits.{digits, numeral, lastNumeral}
+use Rattle.lexical_write_integer.specs.Digits.{digits, numeral}
+use Rattle.lexical_write_integer.specs.Code.{lastNumeral}
 use Rattle.lexical_write_integer.proofs.DigitsLaws.{by-quotient, count-lt, count-ge, numeral-lt, numeral-ge}
 
 pub length-last : (r k x : ℕ) → length (lastNumeral r k x) ≡ k

@@ -9,7 +9,8 @@ use borrow.Author.Tests.{le-leb, lt-leb}
 use lib.ListN.{length, drop}
 use Rattle.lexical_util.specs.Answer.{done, refused, written, held}
 use Rattle.lexical_util.proofs.AnswerLaws.{text-fits, text-short}
-use Rattle.lexical_write_integer.specs.Digits.{digits, numeral, lastNumeral}
+use Rattle.lexical_write_integer.specs.Digits.{digits, numeral}
+use Rattle.lexical_write_integer.specs.Code.{lastNumeral}
 use Rattle.lexical_write_integer.specs.Write.{run, mantissaText}
 use Rattle.lexical_write_integer.proofs.DigitsLaws.{length-numeral}
 use Rattle.lexical_write_integer.proofs.LastLaws.{length-last}

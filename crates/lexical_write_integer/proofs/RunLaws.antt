@@ -8,7 +8,8 @@ use lib.Ieee.{size}
 use lib.Ieee.Digits.{size-le}
 use lib.ListN.{length, take, drop, length-take, length-drop, drop-of-length-le}
 use lib.Seq.{take-all, take-at, drop-at, take-add, drop-drop}
-use Rattle.lexical_write_integer.specs.Digits.{digits, numeral, lastNumeral}
+use Rattle.lexical_write_integer.specs.Digits.{digits, numeral}
+use Rattle.lexical_write_integer.specs.Code.{lastNumeral}
 use Rattle.lexical_write_integer.specs.Write.{run}
 use Rattle.lexical_write_integer.proofs.CountLaws.{count-log}
 use Rattle.lexical_write_integer.proofs.DigitsLaws.{pow-mul, radix-above}

@@ -17,8 +17,3 @@ digits radix x = digitsUpTo radix x x
 -- the same as bytes
 unfoldable pub numeral : ℕ → ℕ → List ℕ
 numeral radix x = map digitByte (digits radix x)
-
--- the bytes of the last k digits, leading zeros included
-unfoldable pub lastNumeral : ℕ → ℕ → ℕ → List ℕ
-lastNumeral radix zero x = []
-lastNumeral radix (suc k) x = lastNumeral radix k (x / radix) ++ (digitByte (x % radix) ∷ [])

@@ -1,4 +1,5 @@
 pub mod Digits
 pub mod Table
 pub mod Write
+pub mod Code
 pub mod Claims

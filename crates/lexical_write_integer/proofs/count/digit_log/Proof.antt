@@ -1,5 +1,4 @@
 -- `lexical_write_integer::count::digit_log` meets its contract. Assumes nothing.
-use mathlib.Core.Path.{_≡_, _∙_}
 use native.Mathlib.Omega.{arith}
 use borrow.Author.Needs.{needs}
 use Rattle.lexical_write_integer.proofs.CountLaws.{log-small, count-log}
