@@ -1,0 +1,100 @@
+//! One case held against the Rust: the answer and every byte lent.
+
+use std::fmt;
+use std::panic::catch_unwind;
+
+use cases::rust::LENT;
+use cases::{rust_write, Case};
+
+use crate::ours::{self, Answer};
+
+/// What the lent bytes hold before a call: no byte of a text, and not all alike, so that a byte
+/// that is moved shows too.
+const BEFORE: [u8; LENT] = {
+    let mut bytes = [0; LENT];
+    let mut i = 0;
+    while i < LENT {
+        bytes[i] = 0x80 | (i * 37 % 128) as u8;
+        i += 1;
+    }
+    bytes
+};
+
+/// The number of the refusal of a short buffer.
+const SHORT: u64 = 8;
+
+/// How ours differs from the Rust or from document 01.
+#[derive(Debug, Clone, Copy, PartialEq, Eq)]
+pub enum Difference {
+    RustPanics,
+    Refused(u64),
+    Text,
+    BytesPastText,
+    ExactBuffer,
+    ShortBuffer,
+}
+
+impl fmt::Display for Difference {
+    fn fmt(&self, f: &mut fmt::Formatter) -> fmt::Result {
+        match self {
+            Difference::RustPanics => write!(f, "the Rust panics"),
+            Difference::Refused(number) => write!(f, "ours refuses {number}"),
+            Difference::Text => write!(f, "another text"),
+            Difference::BytesPastText => write!(f, "ours changed bytes past the text"),
+            Difference::ExactBuffer => write!(f, "ours differs in a buffer of the text's length"),
+            Difference::ShortBuffer => write!(f, "ours differs in a buffer one byte short"),
+        }
+    }
+}
+
+/// The Rust's text, or none where it panics. It leaves scratch past the text.
+pub fn rust_or_panic(case: &Case) -> Option<Vec<u8>> {
+    let case = *case;
+    catch_unwind(move || {
+        let mut lent = [0; LENT];
+        let length = rust_write(&case, &mut lent);
+        lent[..length].to_vec()
+    })
+    .ok()
+}
+
+/// The answer of ours in the lists' form.
+pub fn our_answer(case: &Case) -> String {
+    let mut lent = BEFORE;
+    match ours::write(case, &mut lent) {
+        Answer::Length(n) => format!("{n} {}", String::from_utf8_lossy(&lent[..n])),
+        Answer::Refused(number) => format!("refused {number} at 0"),
+    }
+}
+
+/// Whether the bytes are `text` and then what they were.
+fn holds(lent: &[u8; LENT], text: &[u8]) -> bool {
+    lent[..text.len()] == *text && lent[text.len()..] == BEFORE[text.len()..]
+}
+
+/// Lets ours write with 4,096 bytes, with the text's length and with one byte less.
+pub fn check(case: &Case) -> Result<(), Difference> {
+    let text = rust_or_panic(case).ok_or(Difference::RustPanics)?;
+    let length = text.len();
+
+    let mut lent = BEFORE;
+    match ours::write(case, &mut lent) {
+        Answer::Refused(number) => return Err(Difference::Refused(number)),
+        Answer::Length(n) if n != length || lent[..n] != *text => return Err(Difference::Text),
+        Answer::Length(_) if !holds(&lent, &text) => return Err(Difference::BytesPastText),
+        Answer::Length(_) => {}
+    }
+
+    let mut lent = BEFORE;
+    let answer = ours::write(case, &mut lent[..length]);
+    if answer != Answer::Length(length) || !holds(&lent, &text) {
+        return Err(Difference::ExactBuffer);
+    }
+
+    let mut lent = BEFORE;
+    let answer = ours::write(case, &mut lent[..length - 1]);
+    if answer != Answer::Refused(SHORT) || !holds(&lent, &[]) {
+        return Err(Difference::ShortBuffer);
+    }
+    Ok(())
+}
