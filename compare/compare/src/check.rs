@@ -72,8 +72,9 @@ fn holds(lent: &[u8; LENT], text: &[u8]) -> bool {
     lent[..text.len()] == *text && lent[text.len()..] == BEFORE[text.len()..]
 }
 
-/// Lets ours write with 4,096 bytes, with the text's length and with one byte less.
-pub fn check(case: &Case) -> Result<(), Difference> {
+/// Lets ours write with 4,096 bytes, with the text's length and with one byte less. Answers the
+/// text's length.
+pub fn check(case: &Case) -> Result<usize, Difference> {
     let text = rust_or_panic(case).ok_or(Difference::RustPanics)?;
     let length = text.len();
 
@@ -96,5 +97,5 @@ pub fn check(case: &Case) -> Result<(), Difference> {
     if answer != Answer::Refused(SHORT) || !holds(&lent, &[]) {
         return Err(Difference::ShortBuffer);
     }
-    Ok(())
+    Ok(length)
 }

@@ -52,7 +52,7 @@ fn cause_of(case: &Case) -> Cause {
         } else {
             Cause::NoEffect
         }
-    } else if (significant_bits(parts(case).0) - case.most * b) % b != 0 {
+    } else if !(significant_bits(parts(case).0) - case.most * b).is_multiple_of(b) {
         Cause::PartOfADigit
     } else {
         Cause::WholeDigits

@@ -8,6 +8,7 @@ use std::collections::BTreeMap;
 use std::{env, panic, process::exit};
 
 use cases::generate::{with_limit_in_domain, with_wide_limit, without_limit};
+use cases::layout::layout_of;
 use cases::list::replay;
 use cases::random::Random;
 use cases::Case;
@@ -68,29 +69,48 @@ fn show(case: &Case, difference: check::Difference) {
     }
 }
 
-/// Compares `count` random cases and prints the counts. Answers whether all agree.
-fn compare(seed: u64, count: u64) -> bool {
-    let mut random = Random::new(seed);
-    let mut by_limit: BTreeMap<&str, u64> = BTreeMap::new();
-    let mut by_pair: BTreeMap<(u32, u32, u32), u64> = BTreeMap::new();
-    let mut differing = 0;
-    for _ in 0..count {
-        let (limit, case) = draw(&mut random);
-        *by_limit.entry(limit).or_default() += 1;
-        *by_pair.entry((case.radix, case.base, case.width)).or_default() += 1;
-        if let Err(difference) = check(&case) {
-            differing += 1;
-            if differing <= SHOWN {
-                show(&case, difference);
+/// What was compared.
+#[derive(Default)]
+struct Counts {
+    by_name: BTreeMap<String, u64>,
+    longest: usize,
+    differing: u64,
+}
+
+impl Counts {
+    fn add(&mut self, name: String) {
+        *self.by_name.entry(name).or_default() += 1;
+    }
+
+    /// Compares one case and counts it.
+    fn take(&mut self, limit: &str, case: &Case) {
+        self.add(format!("limit: {limit}"));
+        self.add(format!("pair: {}/{} at {} bits", case.radix, case.base, case.width));
+        self.add(format!("layout: {}", layout_of(case)));
+        match check(case) {
+            Ok(length) => self.longest = self.longest.max(length),
+            Err(difference) => {
+                self.differing += 1;
+                if self.differing <= SHOWN {
+                    show(case, difference);
+                }
             }
         }
     }
-    for ((radix, base, width), cases) in by_pair {
-        println!("{cases:9} {radix}/{base} at {width} bits");
+}
+
+/// Compares `count` random cases and prints the counts. Answers whether all agree.
+fn compare(seed: u64, count: u64) -> bool {
+    let mut random = Random::new(seed);
+    let mut counts = Counts::default();
+    for _ in 0..count {
+        let (limit, case) = draw(&mut random);
+        counts.take(limit, &case);
     }
-    for (limit, cases) in by_limit {
-        println!("{cases:9} {limit}");
+    for (name, cases) in &counts.by_name {
+        println!("{cases:9} {name}");
     }
-    println!("seed {seed}: {count} compared, {differing} different");
+    let Counts { longest, differing, .. } = counts;
+    println!("seed {seed}: {count} compared, {differing} different, longest text {longest} bytes");
     differing == 0
 }

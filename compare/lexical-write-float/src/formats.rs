@@ -48,7 +48,8 @@ const fn flags_at(place: u128) -> u128 {
 }
 
 macro_rules! of_flags {
-    ($module:ident $float:ident $radix:literal $base:literal $power:literal, $($place:literal)*) => {
+    ($module:ident $float:ident $radix:literal $base:literal $power:literal,
+        $($place:literal)*) => {
         [$($module::write_float::<$float, { pack($radix, $base, $power, flags_at($place)) }>),*]
     };
 }
