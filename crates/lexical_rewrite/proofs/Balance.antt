@@ -9,8 +9,8 @@ use lib.IntN.{ℤ, pos, negsuc, negℤ, _+ℤ_, _-ℤ_, _*ℤ_, +ℤ-assoc, +ℤ
 use lib.Signed.{shrZ}
 use lib.Pow.{pow-add}
 use lib.Ieee.{up, down}
-use Rattle.lexical_write_float.specs.Value.{modulo}
-use Rattle.lexical_write_float.proofs.Integers.{floor-modulo, times-less}
+use Rattle.lexical_text.specs.Value.{modulo}
+use Rattle.lexical_text.proofs.Integers.{floor-modulo, times-less}
 
 -- ---- sums of a negative number and a natural one
 sum-pos : (k y n : ℕ) → negsuc k +ℤ pos y ≡ pos n → y ≡ suc k + n

@@ -13,10 +13,10 @@ use Rattle.lexical_write_integer.proofs.DigitsLaws.{map-append}
 use Rattle.lexical_format.specs.declared.format.Pair.{Pair}
 use Rattle.lexical_format.specs.declared.format.NumberFormat.{NumberFormat}
 use Rattle.lexical_format.specs.declared.options.Options.{Options}
-use Rattle.lexical_write_float.specs.declared.layout.Layout.{Layout}
-use Rattle.lexical_write_float.specs.declared.layout.Layout.the-variants.{Scientific, Negative, Positive}
-use Rattle.lexical_write_float.specs.Value.{modulo, exactDigits}
-use Rattle.lexical_write_float.specs.Text.{zeros, point, least, trim, layoutOf, scientific, exponentSign, exponentText, negative, positive, laidOut, digitsSoFar, text}
+use Rattle.lexical_text.specs.declared.layout.Layout.{Layout}
+use Rattle.lexical_text.specs.declared.layout.Layout.the-variants.{Scientific, Negative, Positive}
+use Rattle.lexical_text.specs.Value.{modulo, exactDigits}
+use Rattle.lexical_text.specs.Text.{zeros, point, least, trim, layoutOf, scientific, exponentSign, exponentText, negative, positive, laidOut, digitsSoFar, text}
 use Rattle.lexical_read_float.specs.Shape.{Grammar, Sign, unsigned, plus, minus, Tail, absent, exponent, Shape, signBytes, tailBytes, print}
 use Rattle.lexical_read_float.specs.Parse.{withTail}
 use Rattle.lexical_read_float.specs.Read.{grammarOf}

@@ -22,10 +22,10 @@ use Rattle.lexical_format.specs.declared.format.Pair.{Pair}
 use Rattle.lexical_format.specs.declared.format.NumberFormat.{NumberFormat}
 use Rattle.lexical_format.specs.declared.options.Options.{Options}
 use Rattle.lexical_format.proofs.FormatLaws.{power-whole, Readable}
-use Rattle.lexical_write_float.specs.declared.layout.Layout.the-variants.{Scientific, Negative, Positive}
-use Rattle.lexical_write_float.specs.Value.{modulo, exactDigits}
-use Rattle.lexical_write_float.specs.Text.{least, trim, isScientific, layoutOf, digitsSoFar}
-use Rattle.lexical_write_float.proofs.WriteLaws.{first-place}
+use Rattle.lexical_text.specs.declared.layout.Layout.the-variants.{Scientific, Negative, Positive}
+use Rattle.lexical_text.specs.Value.{modulo, exactDigits}
+use Rattle.lexical_text.specs.Text.{least, trim, isScientific, layoutOf, digitsSoFar}
+use Rattle.lexical_text.proofs.WriteLaws.{first-place}
 use Rattle.lexical_read_float.specs.Shape.{unsigned, plus, Tail, absent, exponent, Shape}
 use Rattle.lexical_read_float.specs.Parse.{withTail}
 use Rattle.lexical_read_float.specs.Read.{magnitude, isNegative, numerator, denominator}

@@ -18,10 +18,10 @@ use Rattle.lexical_format.specs.declared.format.Pair.{Pair}
 use Rattle.lexical_format.specs.declared.format.NumberFormat.{NumberFormat}
 use Rattle.lexical_format.specs.declared.options.Options.{Options}
 use Rattle.lexical_format.proofs.FormatLaws.{Readable}
-use Rattle.lexical_write_float.specs.declared.layout.Layout.{Layout}
-use Rattle.lexical_write_float.specs.declared.layout.Layout.the-variants.{Scientific, Negative, Positive}
-use Rattle.lexical_write_float.specs.Value.{modulo, exactDigits}
-use Rattle.lexical_write_float.specs.Text.{least, trim, layoutOf, digitsSoFar}
+use Rattle.lexical_text.specs.declared.layout.Layout.{Layout}
+use Rattle.lexical_text.specs.declared.layout.Layout.the-variants.{Scientific, Negative, Positive}
+use Rattle.lexical_text.specs.Value.{modulo, exactDigits}
+use Rattle.lexical_text.specs.Text.{least, trim, layoutOf, digitsSoFar}
 use Rattle.lexical_read_float.specs.Shape.{Grammar, Tail, absent, Some, TailFits, FractionFits, WellFormed}
 use Rattle.lexical_read_float.specs.Parse.{withTail}
 use Rattle.lexical_read_float.specs.Read.{grammarOf}

@@ -21,15 +21,15 @@ use Rattle.lexical_format.specs.declared.format.NumberFormat.{NumberFormat}
 use Rattle.lexical_format.specs.declared.options.Options.{Options}
 use Rattle.lexical_format.specs.Format.{readingFormat, writingFormat}
 use Rattle.lexical_format.proofs.FormatLaws.{Readable, readable, writable-reads}
-use Rattle.lexical_write_float.specs.declared.layout.Layout.{Layout}
-use Rattle.lexical_write_float.specs.declared.layout.Layout.the-variants.{Scientific, Negative, Positive}
-use Rattle.lexical_write_float.specs.Limit.{limited}
-use Rattle.lexical_write_float.specs.Text.{least, trim, layoutOf, digitsSoFar, text}
-use Rattle.lexical_write_float.specs.Value.{exactDigits}
-use Rattle.lexical_write_float.specs.Write.{limitedText, floatText, writeText}
-use Rattle.lexical_write_float.specs.Code.{Ranged}
-use Rattle.lexical_write_float.proofs.RangeLaws.{fits-ranged, place-near}
-use Rattle.lexical_write_float.proofs.WriteLaws.{longest-text}
+use Rattle.lexical_text.specs.declared.layout.Layout.{Layout}
+use Rattle.lexical_text.specs.declared.layout.Layout.the-variants.{Scientific, Negative, Positive}
+use Rattle.lexical_text.specs.Limit.{limited}
+use Rattle.lexical_text.specs.Text.{least, trim, layoutOf, digitsSoFar, text}
+use Rattle.lexical_text.specs.Value.{exactDigits}
+use Rattle.lexical_text.specs.Write.{limitedText, floatText, writeText}
+use Rattle.lexical_text.specs.Range.{Ranged}
+use Rattle.lexical_text.proofs.RangeLaws.{fits-ranged, place-near}
+use Rattle.lexical_text.proofs.WriteLaws.{longest-text}
 use Rattle.lexical_read_float.specs.Shape.{Tail, absent, Shape}
 use Rattle.lexical_read_float.specs.Parse.{withTail, shapeOf}
 use Rattle.lexical_read_float.specs.Read.{grammarOf, magnitude, numerator, denominator, floatOf, exponentTooLarge, exponentPlace, valueOf, readText, readFloat}

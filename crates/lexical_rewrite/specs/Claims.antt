@@ -11,7 +11,7 @@ use Rattle.lexical_format.specs.declared.format.Pair.{Pair}
 use Rattle.lexical_format.specs.declared.format.NumberFormat.{NumberFormat}
 use Rattle.lexical_format.specs.declared.options.Options.{Options}
 use Rattle.lexical_format.specs.Format.{readingFormat}
-use Rattle.lexical_write_float.specs.Write.{writeText}
+use Rattle.lexical_text.specs.Write.{writeText}
 use Rattle.lexical_read_float.specs.Shape.{Shape, WellFormed, print}
 use Rattle.lexical_read_float.specs.Parse.{shapeOf}
 use Rattle.lexical_read_float.specs.Read.{grammarOf, numerator, denominator, readFloat}

@@ -8,30 +8,30 @@ use native.Mathlib.Decide.{decLe}
 use native.Mathlib.Omega.{arith}
 use borrow.Author.Tests.{le-leb}
 use lib.Dec.{T, leb, eqb, lit≤}
-use lib.IntN.{ℤ, pos, negsuc}
+use lib.IntN.{ℤ}
 use lib.ListN.{length}
 use lib.Ieee.{Float, nan, inf, fin, Format, binary32, binary64, low, hid, ones, minus, toBits, fits}
-use Rattle.lexical_util.specs.declared.num.Magnitude.{Magnitude}
 use Rattle.lexical_util.specs.declared.num.Parts.{Parts}
-use Rattle.lexical_util.specs.declared.num.Parts.the-variants.{Plain, Negative, Special}
+use Rattle.lexical_util.specs.declared.num.Parts.the-variants.{Negative}
 use Rattle.lexical_util.specs.Answer.{Answer, done, refused, andThen, written, held}
 use Rattle.lexical_util.specs.Num.{biased, mantissa, exponent, scale, place}
-use Rattle.lexical_util.specs.Parts.{magnitudeOf, partsOf, IsValue}
+use Rattle.lexical_util.specs.Parts.{partsOf, IsValue}
 use Rattle.lexical_util.proofs.AnswerLaws.{refused-done, done-same}
-use Rattle.lexical_util.proofs.DifferenceLaws.{minus-ge, minus-lt, by-larger}
+use Rattle.lexical_util.proofs.DifferenceLaws.{minus-ge, minus-lt}
 use Rattle.lexical_format.specs.declared.checks.CheckedFormat.{CheckedFormat}
 use Rattle.lexical_format.specs.declared.format.Pair.{Pair}
 use Rattle.lexical_format.specs.declared.format.NumberFormat.{NumberFormat}
 use Rattle.lexical_format.specs.declared.options.Options.{Options}
 use Rattle.lexical_format.specs.Format.{writingFormat, settled, checkedFormat}
-use Rattle.lexical_write_float.specs.declared.layout.Layout.{Layout}
-use Rattle.lexical_write_float.specs.declared.layout.Layout.the-variants as layouts
-use Rattle.lexical_write_float.specs.Value.{Value, normal, exactDigits}
-use Rattle.lexical_write_float.specs.Text.{layoutOf, digitsSoFar, laidOut, text, exponentText}
-use Rattle.lexical_write_float.specs.Write.{limitedText, floatText, writeText, NoLonger, NeverRefused}
-use Rattle.lexical_write_float.specs.Code.{Between, Passed, rowOf, FloatParts, FloatsParts, magnitudeText, partsText}
+use Rattle.lexical_text.specs.declared.layout.Layout.{Layout}
+use Rattle.lexical_text.specs.declared.layout.Layout.the-variants as layouts
+use Rattle.lexical_text.specs.Value.{Value, exactDigits}
+use Rattle.lexical_text.specs.Text.{layoutOf, digitsSoFar, laidOut, text, exponentText}
+use Rattle.lexical_text.specs.Write.{limitedText, floatText, writeText, NoLonger, NeverRefused}
+use Rattle.lexical_text.specs.Range.{Between}
+use Rattle.lexical_write_float.specs.Code.{Passed, rowOf, FloatsParts, partsText}
 use Rattle.lexical_write_float.proofs.FloatLaws.{float-normal}
-use Rattle.lexical_write_float.proofs.WriteLaws.{longest-text}
+use Rattle.lexical_text.proofs.WriteLaws.{longest-text}
 
 -- ---- the check's answer
 pub passed : (F : NumberFormat) (o : Options) (c : CheckedFormat) → done c ≡ checkedFormat F o → Passed F o c

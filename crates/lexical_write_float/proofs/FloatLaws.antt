@@ -1,5 +1,5 @@
 -- The normal form of a float's mantissa and exponent is the float itself, for both widths. Assumes nothing.
-use Prim.Native.Nat.{ℕ, zero, suc, _+_, _-_, _*_, _%_, _^_, _≤_, _<_}
+use Prim.Native.Nat.{ℕ, zero, suc, _+_, _-_, _*_, _%_, _^_, _<_}
 use mathlib.Core.Path.{_≡_, refl, sym, ap, ap₂, _∙_, subst}
 use mathlib.Core.Bool.{false}
 use native.Mathlib.Nat.{lt-of-lt-of-le, mul-one, one-mul, zero-mul, mul-assoc, mul-pos, zero-add, zero-lt-suc, pow-suc}
@@ -8,7 +8,7 @@ use borrow.Author.Tests.{lt-ltb, le-ltb}
 use lib.Dec.{T, eqb→eq}
 use lib.IntN.{ℤ, pos, negsuc, _+ℤ_}
 use lib.Pow.{pow-add, pow-pos, pow-mono}
-use lib.Ieee.{Float, fin, Format, up, down, size, fits}
+use lib.Ieee.{fin, Format, up, down, size, fits}
 use lib.Ieee.Digits.{size-lt}
 use lib.Ieee.Exact.{HasValue}
 use lib.Ieee.Fits.{up-pos, down-pos}
@@ -17,14 +17,15 @@ use Rattle.lexical_format.specs.declared.checks.CheckedFormat.{CheckedFormat}
 use Rattle.lexical_format.specs.declared.format.NumberFormat.{NumberFormat}
 use Rattle.lexical_format.specs.declared.options.Options.{Options}
 use Rattle.lexical_format.specs.declared.options.RoundMode.{RoundMode}
-use Rattle.lexical_write_float.specs.Value.{Value, normal}
-use Rattle.lexical_write_float.specs.Limit.{limited}
-use Rattle.lexical_write_float.specs.Text.{text}
-use Rattle.lexical_write_float.specs.Write.{limitedText}
-use Rattle.lexical_write_float.specs.Code.{ofMagnitude, Between, Ranged, FloatParts, rowOf, magnitudeText}
-use Rattle.lexical_write_float.proofs.Integers.{between-wider}
-use Rattle.lexical_write_float.proofs.ValueLaws.{is-normal, odd-unique}
-use Rattle.lexical_write_float.proofs.RangeLaws.{in-range, limited-fits}
+use Rattle.lexical_text.specs.Value.{Value, normal}
+use Rattle.lexical_text.specs.Limit.{limited}
+use Rattle.lexical_text.specs.Text.{text}
+use Rattle.lexical_text.specs.Write.{limitedText}
+use Rattle.lexical_text.specs.Range.{Between, Ranged}
+use Rattle.lexical_write_float.specs.Code.{ofMagnitude, FloatParts, rowOf, magnitudeText}
+use Rattle.lexical_text.proofs.Integers.{between-wider}
+use Rattle.lexical_text.proofs.ValueLaws.{is-normal, odd-unique}
+use Rattle.lexical_text.proofs.RangeLaws.{in-range, limited-fits}
 
 -- ---- 2 ^ e as a fraction of two powers of two
 above : ℤ → ℕ

@@ -1,13 +1,6 @@
-pub mod Integers
-pub mod ValueLaws
-pub mod LimitLaws
-pub mod RangeLaws
 pub mod FloatLaws
 pub mod PowerLaws
-pub mod LengthLaws
-pub mod WriteLaws
 pub mod PutLaws
 pub mod PlanLaws
 pub mod TextLaws
 pub mod AnswerLaws
-pub mod Starred

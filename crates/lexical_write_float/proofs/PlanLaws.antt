@@ -1,20 +1,18 @@
 -- How long a planned text is, and the plan of each layout. Assumes nothing.
 use Prim.Native.Nat.{ℕ, suc, _+_, _-_, _≤_, _<_, max}
-use mathlib.Core.Path.{_≡_, refl, sym, ap, _∙_}
-use mathlib.Core.Bool.{Bool, true, false, not, cond, _&&_}
-use mathlib.Core.List.{List, [], _∷_, _++_}
+use mathlib.Core.Path.{_≡_, refl, _∙_}
+use mathlib.Core.Bool.{Bool, true, false, not, _&&_}
+use mathlib.Core.List.{List, []}
 use native.Mathlib.Omega.{arith}
 use borrow.Author.Tests.{lt-ltb, le-ltb}
-use lib.Dec.{ltb}
 use lib.IntN.{ℤ, natAbs}
-use lib.ListN.{length, take, drop, length-append, length-replicate, length-drop}
+use lib.ListN.{length, drop, length-append, length-replicate, length-drop}
 use lib.Seq.{length-take-le, take-all, drop-length}
 use Rattle.lexical_write_float.specs.declared.plan.Plan.{Plan}
-use Rattle.lexical_write_integer.specs.Write.{run}
 use Rattle.lexical_format.specs.declared.format.NumberFormat.{NumberFormat}
 use Rattle.lexical_format.specs.declared.options.Options.{Options}
-use Rattle.lexical_write_float.specs.Text.{zeros, point, least, trim, scientific, negative, positive, afterOneDigit, afterPlaces}
-use Rattle.lexical_write_float.specs.Code.{fractionText, planText, Small, IsPlan}
+use Rattle.lexical_text.specs.Text.{zeros, point, least, trim, scientific, negative, positive}
+use Rattle.lexical_write_float.specs.Code.{fractionText, planText, IsPlan}
 
 module _ (point : ℕ) (P : Plan) (D : List ℕ) where
   pub fraction-length : P .point ≡ true → length (fractionText point P D) ≡ 1 + P .gap + (length D - P .leading) + P .padding
@@ -28,19 +26,6 @@ module _ (point : ℕ) (P : Plan) (D : List ℕ) where
   pub plan-length : P .leading ≤ length D → length (planText point P D) ≡ P .leading + P .filled + length (fractionText point P D)
   unfolding planText
   plan-length h = simp (length-append, length-replicate, length-take-le (P .leading) D h) (omega arith)
-
--- ---- D before and after a place, as runs
-pub run-front : (D : List ℕ) (n : ℕ) → run 0 n D ≡ take n D
-unfolding run
-run-front D n = let e : n - 0 ≡ n = omega arith in ap (λ (k : ℕ). take k D) e
-
-pub run-back : (D : List ℕ) (from to : ℕ) → to ≡ length D → run from to D ≡ drop from D
-unfolding run
-run-back D from to e = take-all (to - from) (drop from D) (simp length-drop (omega (arith, e)))
-
-pub run-length : (D : List ℕ) (from to : ℕ) → to ≤ length D → length (run from to D) ≡ to - from
-unfolding run
-run-length D from to h = length-take-le (to - from) (drop from D) (simp length-drop (omega (arith, h)))
 
 -- ---- the plan of each layout
 drop-whole : (n : ℕ) (D : List ℕ) → length D ≡ n → drop n D ≡ []

@@ -1,29 +1,20 @@
 -- The text of an exponent by its sign and its magnitude: its length, and that it is the text of an exponent in document 01's sense. Assumes nothing.
-use Prim.Native.Nat.{ℕ, _+_, _*_, _/_, _^_, _≤_, _<_}
-use mathlib.Core.Path.{_≡_, refl, sym, _∙_}
+use Prim.Native.Nat.{ℕ, _+_, _*_, _/_}
+use mathlib.Core.Path.{_≡_, refl, sym}
 use mathlib.Core.Bool.{Bool, true}
-use mathlib.Core.List.{List}
-use native.Mathlib.Nat.{lt-of-lt-of-le, pow-le-pow-left}
 use native.Mathlib.Omega.{arith}
 use lib.IntN.{ℤ, pos, negsuc}
 use lib.ListN.{length, length-append}
 use Rattle.lexical_util.specs.Digit.{isRadix}
 use Rattle.lexical_util.specs.Num.{isNegative, power}
-use Rattle.lexical_util.proofs.RadixLaws.{radix-bounds}
-use Rattle.lexical_write_integer.specs.Digits.{digits, numeral}
+use Rattle.lexical_write_integer.specs.Digits.{numeral}
 use Rattle.lexical_write_integer.specs.Write.{digitCount}
-use Rattle.lexical_write_integer.proofs.DigitsLaws.{count-le, length-numeral}
+use Rattle.lexical_write_integer.proofs.DigitsLaws.{length-numeral}
 use Rattle.lexical_format.specs.declared.format.Pair.{Pair}
 use Rattle.lexical_format.specs.declared.format.NumberFormat.{NumberFormat}
 use Rattle.lexical_format.specs.declared.options.Options.{Options}
-use Rattle.lexical_write_float.specs.Text.{exponentSign, exponentText}
+use Rattle.lexical_text.specs.Text.{exponentText}
 use Rattle.lexical_write_float.specs.Code.{signText, powerText}
-
--- a magnitude below 2 ^ 13 has at most 13 digits in any radix
-pub few-digits : (radix n : ℕ) → isRadix radix ≡ true → n < 8192 → length (numeral radix n) ≤ 13
-few-digits radix n R h =
-    let q = radix-bounds radix R in
-    omega (arith, length-numeral radix n, count-le radix (q .0) 12 n (lt-of-lt-of-le h (pow-le-pow-left (q .0) 13)))
 
 pub count-is : (radix n : ℕ) → isRadix radix ≡ true → digitCount n radix ≡ length (numeral radix n)
 unfolding digitCount

@@ -1,13 +1,12 @@
 -- A text by its pieces: what the code knows of a checked format, of D and of a layout. Assumes nothing.
 use Prim.Native.Nat.{ℕ, zero, suc, _+_, _*_, _/_, _%_, _^_, _≤_, _<_}
-use mathlib.Core.Path.{_≡_, refl, sym, ap, _∙_}
+use mathlib.Core.Path.{_≡_, refl, sym, _∙_}
 use mathlib.Core.Bool.{true}
 use mathlib.Core.List.{List, _++_}
-use native.Mathlib.Nat.{mul-le-mul, div-le-self, mod-eq-of-lt, lt-of-lt-of-le, mul-lt-mul-of-pos-right}
+use native.Mathlib.Nat.{mul-le-mul, div-le-self, mod-eq-of-lt, lt-of-lt-of-le}
 use native.Mathlib.Omega.{arith}
 use lib.IntN.{ℤ, natAbs}
-use lib.ListN.{length}
-use lib.Pow.{pow-pos, pow-mono, shl-lt}
+use lib.Pow.{pow-mono, shl-lt}
 use Rattle.lexical_util.specs.Digit.{isRadix}
 use Rattle.lexical_util.specs.Num.{scale, place, power}
 use Rattle.lexical_write_integer.proofs.DigitsLaws.{length-numeral, count-pos, radix-above}
@@ -17,11 +16,11 @@ use Rattle.lexical_format.specs.declared.format.NumberFormat.{NumberFormat}
 use Rattle.lexical_format.specs.declared.options.Options.{Options}
 use Rattle.lexical_format.specs.Format.{lowBreak, highBreak, settled}
 use Rattle.lexical_format.proofs.FormatLaws.{writable}
-use Rattle.lexical_write_float.specs.declared.layout.Layout.{Layout}
-use Rattle.lexical_write_float.specs.declared.layout.Layout.the-variants.{Scientific, Negative, Positive}
+use Rattle.lexical_text.specs.declared.layout.Layout.{Layout}
+use Rattle.lexical_text.specs.declared.layout.Layout.the-variants.{Scientific, Negative, Positive}
 use Rattle.lexical_write_float.specs.declared.plan.Digits.{Digits}
-use Rattle.lexical_write_float.specs.Value.{exactDigits}
-use Rattle.lexical_write_float.specs.Text.{least, scientific, exponentText, negative, positive, layoutOf, digitsSoFar, text}
+use Rattle.lexical_text.specs.Value.{exactDigits}
+use Rattle.lexical_text.specs.Text.{least, scientific, exponentText, negative, positive, layoutOf, digitsSoFar, text}
 use Rattle.lexical_write_float.specs.Code.{Passed, rowOf, Counted, bodyText}
 
 -- ---- a format that passed the check

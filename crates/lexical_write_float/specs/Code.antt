@@ -4,11 +4,10 @@ use mathlib.Core.Path.{_≡_}
 use mathlib.Core.Bool.{Bool, false, cond}
 use mathlib.Core.List.{List, [], _∷_, _++_}
 use lib.Dec.{T}
-use lib.IntN.{ℤ, pos, negsuc, natAbs}
+use lib.IntN.{ℤ, natAbs}
 use lib.ListN.{length, take, drop}
 use lib.Ieee.{Format, fin, fits}
 use Rattle.lexical_util.specs.Answer.{Answer, done, refused}
-use Rattle.lexical_util.specs.Num.{scale}
 use Rattle.lexical_util.specs.declared.num.Magnitude.{Magnitude}
 use Rattle.lexical_util.specs.declared.num.Parts.{Parts}
 use Rattle.lexical_util.specs.declared.num.Parts.the-variants as parts
@@ -18,28 +17,19 @@ use Rattle.lexical_format.specs.declared.format.Pair.{Pair}
 use Rattle.lexical_format.specs.declared.format.NumberFormat.{NumberFormat}
 use Rattle.lexical_format.specs.declared.options.Options.{Options}
 use Rattle.lexical_format.specs.Format.{pair, writingFormat, settled}
-use Rattle.lexical_write_float.specs.declared.layout.Layout.{Layout}
-use Rattle.lexical_write_float.specs.declared.layout.Layout.the-variants.{Scientific, Negative, Positive}
+use Rattle.lexical_text.specs.declared.layout.Layout.{Layout}
+use Rattle.lexical_text.specs.declared.layout.Layout.the-variants.{Scientific, Negative, Positive}
 use Rattle.lexical_write_float.specs.declared.plan.Digits.{Digits}
 use Rattle.lexical_write_float.specs.declared.plan.Plan.{Plan}
-use Rattle.lexical_write_float.specs.Value.{Value, normal}
-use Rattle.lexical_write_float.specs.Text.{zeros, scientific, negative, positive}
-use Rattle.lexical_write_float.specs.Write.{limitedText}
+use Rattle.lexical_text.specs.Value.{Value, normal}
+use Rattle.lexical_text.specs.Range.{Between}
+use Rattle.lexical_text.specs.Text.{zeros, scientific, negative, positive}
+use Rattle.lexical_text.specs.Write.{limitedText}
 
 -- ---- values
 -- the value that a magnitude stands for
 abbrev pub ofMagnitude : Magnitude → Value
 ofMagnitude v = record { m = v .mantissa; e = v .exponent }
-
--- from -least to most
-abbrev pub Between : ℕ → ℕ → ℤ → Type 0
-Between least most (pos n) = n ≤ most
-Between least most (negsuc n) = n < least
-
--- a value that may be written: a float's, or one that a digit limit made of it
-pub record Ranged (m : ℕ) (e : ℤ) : Type 0 where
-  pub few : m < 2 ^ 54
-  pub near : Between 1074 1024 (scale m e)
 
 -- the parts of a finite float with the sign bit clear, of either width
 pub record FloatParts (v : Magnitude) : Type 0 where

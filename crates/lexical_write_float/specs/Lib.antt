@@ -1,7 +1,1 @@
-pub mod Value
-pub mod Limit
-pub mod Text
-pub mod Write
 pub mod Code
-pub mod Claims
-pub mod Examples

@@ -1,13 +1,14 @@
 // Derived from lexical-write-float/src/binary.rs, changed: the unit of a digit limit is aligned with the digits; a value comes back in normal form, so that a carry needs no count of its own; and a layout answers a plan, which is measured before it is written.
 ghost use mathlib.Core.Path.{_≡_};
 ghost use Prim.Native.Nat.{ℕ, _+_, _-_, _*_, _%_, _^_, _≤_, _<_};
-ghost use Rattle.lexical_write_float.specs.Value.{modulo, normal};
-ghost use Rattle.lexical_write_float.specs.Limit.{rounded, limited};
-ghost use Rattle.lexical_write_float.specs.Code.{ofMagnitude, Between, IsPlan};
+ghost use Rattle.lexical_text.specs.Value.{modulo, normal};
+ghost use Rattle.lexical_text.specs.Limit.{rounded, limited};
+ghost use Rattle.lexical_text.specs.Range.{Between};
+ghost use Rattle.lexical_write_float.specs.Code.{ofMagnitude, IsPlan};
 ghost use mathlib.Core.List.{List};
 ghost use lib.IntN.{pos, natAbs, _+ℤ_};
 ghost use Rattle.lexical_format.specs.declared.format.NumberFormat.{NumberFormat};
-ghost use Rattle.lexical_write_float.specs.Text.{point, least, negative, positive};
+ghost use Rattle.lexical_text.specs.Text.{point, least, negative, positive};
 use crate::plan::Plan;
 use crate::shared::missing_digits;
 use lexical_format::Options;

@@ -5,7 +5,7 @@ ghost use mathlib.Core.List.{_++_};
 ghost use Prim.Native.Nat.{_≤_, _<_};
 ghost use Rattle.lexical_util.specs.Answer.{done, written, held, ofWritten};
 ghost use Rattle.lexical_util.specs.Digit.{isRadix};
-ghost use Rattle.lexical_write_float.specs.Text.{point, least, trim, scientific};
+ghost use Rattle.lexical_text.specs.Text.{point, least, trim, scientific};
 ghost use Rattle.lexical_write_float.specs.Code.{Counted, Small, IsPlan, digitsOf, planText, powerText};
 use crate::plan::Digits;
 use crate::plan::Plan;

@@ -7,7 +7,7 @@ ghost use lib.ListN.{length};
 ghost use Rattle.lexical_util.specs.Digit.{isRadix};
 ghost use Rattle.lexical_write_integer.specs.Digits.{numeral};
 ghost use Rattle.lexical_write_integer.specs.Write.{run};
-ghost use Rattle.lexical_write_float.specs.Text.{zeros};
+ghost use Rattle.lexical_text.specs.Text.{zeros};
 ghost use Rattle.lexical_write_float.specs.Code.{Puts, Counted, digitsOf};
 use crate::plan::Digits;
 use lexical_util::Written;

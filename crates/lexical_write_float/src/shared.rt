@@ -2,18 +2,17 @@
 ghost use mathlib.Core.Path.{_≡_};
 ghost use mathlib.Core.Bool.{true};
 ghost use Prim.Native.Nat.{ℕ, _+_, _-_, _≤_, _<_};
-ghost use lib.IntN.{ℤ};
 ghost use lib.ListN.{length};
 ghost use Rattle.lexical_util.specs.Digit.{isRadix};
-ghost use Rattle.lexical_write_float.specs.Text.{isScientific, layoutOf};
+ghost use Rattle.lexical_text.specs.Text.{isScientific, layoutOf};
 ghost use Rattle.lexical_format.specs.declared.options.Options.{Options};
 ghost use Rattle.lexical_format.specs.Format.{lowBreak, highBreak};
 ghost use Rattle.lexical_write_float.specs.Code.{Puts, signText, powerText};
-use crate::layout::Layout;
 use crate::pieces::put_byte;
 use crate::pieces::put_integer;
 use lexical_format::CheckedFormat;
 use lexical_format::NumberFormat;
+use lexical_text::Layout;
 use lexical_util::BaseExponent;
 use lexical_util::BitExponent;
 

@@ -6,7 +6,7 @@ use native.Mathlib.Omega.{arith}
 use lib.IntN.{pos, natAbs}
 use lib.Signed.{ltZ}
 use mir.Facts.{toZ-ofZ}
-use Rattle.lexical_write_float.proofs.Integers.{modulo-above, modulo-below}
+use Rattle.lexical_text.proofs.Integers.{modulo-above, modulo-below}
 use borrow.Author.Needs.{needs}
 use Rattle.lexical_write_float.proofs.binary.calculate_shl.Statement.{statement}
 use Rattle.lexical_write_float.proofs.binary.calculate_shl.Tie as tie

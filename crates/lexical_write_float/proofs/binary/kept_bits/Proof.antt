@@ -7,7 +7,7 @@ use borrow.Author.Needs.{needs}
 use mir.Facts.{toZ-ofZ}
 use mir.Val.{SFits}
 use mir.Syntax.{w32}
-use Rattle.lexical_write_float.specs.Value.{modulo}
+use Rattle.lexical_text.specs.Value.{modulo}
 use Rattle.lexical_write_float.proofs.binary.kept_bits.Statement.{statement}
 use Rattle.lexical_write_float.proofs.binary.kept_bits.Tie as tie
 

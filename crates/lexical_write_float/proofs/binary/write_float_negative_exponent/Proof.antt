@@ -1,6 +1,6 @@
 use lib.IntN.{natAbs}
 use Rattle.lexical_format.proofs.CheckLaws.{break-read}
-use mathlib.Core.Path.{_≡_, ap, _∙_}
+use mathlib.Core.Path.{ap, _∙_}
 use Prim.Native.Nat.{ℕ, _-_}
 use Rattle.lexical_write_float.proofs.PlanLaws as laws
 use borrow.Author.Needs.{needs}

@@ -4,7 +4,7 @@ use mathlib.Core.List.{List, _++_}
 use native.Mathlib.Omega.{arith}
 use lib.ListN.{length, length-append}
 use Rattle.lexical_util.specs.Answer.{done}
-use Rattle.lexical_write_float.specs.Text.{point}
+use Rattle.lexical_text.specs.Text.{point}
 use Rattle.lexical_write_float.specs.Code.{digitsOf, planText, powerText}
 use Rattle.lexical_write_float.proofs.PutLaws.{puts-more, answered, kept, short, short-held}
 use borrow.Author.Needs.{needs}

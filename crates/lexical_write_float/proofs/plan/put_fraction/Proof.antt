@@ -1,10 +1,10 @@
 use Prim.Native.Nat.{ℕ, _+_, _-_, _≤_}
-use mathlib.Core.Path.{_≡_}
 use native.Mathlib.Omega.{arith}
 use lib.ListN.{length, length-replicate}
 use Rattle.lexical_write_float.specs.Code.{digitsOf, fractionText}
 use Rattle.lexical_write_float.proofs.PutLaws.{puts-none, puts-more}
-use Rattle.lexical_write_float.proofs.PlanLaws.{fraction-length, run-back, run-length}
+use Rattle.lexical_write_float.proofs.PlanLaws.{fraction-length}
+use Rattle.lexical_write_integer.proofs.RunLaws.{run-back, run-length}
 use borrow.Author.Needs.{needs}
 use Rattle.lexical_write_float.proofs.plan.put_fraction.Statement.{statement}
 use Rattle.lexical_write_float.proofs.plan.put_fraction.Tie as tie
@@ -35,7 +35,7 @@ put-digits-requires c κs =
     let s = t .before .before in
     let a = s .args in
     let n = s .pre .0 .count-is in
-    (s .pre .0, omega (arith, room t, p .put-byte .ensures .next-is, z .put-zeros .ensures .next-is, length-replicate {A = ℕ} (a .plan .gap) 48, run-length (digitsOf (a .digits)) (a .plan .leading) (a .digits .count) (omega (arith, n))))
+    (s .pre .0, omega (arith, room t, p .put-byte .ensures .next-is, z .put-zeros .ensures .next-is, length-replicate {A = ℕ} (a .plan .gap) 48, run-length (a .plan .leading) (a .digits .count) (digitsOf (a .digits)), n))
 
 -- src/plan.rt:56:9
 put-zeros-requires-2 : tie.Need-put-zeros-requires-2
@@ -47,7 +47,7 @@ put-zeros-requires-2 c κs =
     let s = t .before .before in
     let a = s .args in
     let n = s .pre .0 .count-is in
-    omega (arith, room t, p .put-byte .ensures .next-is, z .put-zeros .ensures .next-is, length-replicate {A = ℕ} (a .plan .gap) 48, d .put-digits .ensures .next-is, run-length (digitsOf (a .digits)) (a .plan .leading) (a .digits .count) (omega (arith, n)))
+    omega (arith, room t, p .put-byte .ensures .next-is, z .put-zeros .ensures .next-is, length-replicate {A = ℕ} (a .plan .gap) 48, d .put-digits .ensures .next-is, run-length (a .plan .leading) (a .digits .count) (digitsOf (a .digits)), n)
 
 -- src/plan.rt:56:9
 same-length : tie.Need-same-length
@@ -65,7 +65,7 @@ returns c =
     let s = t .before .before in
     let a = s .args in
     let D = digitsOf (a .digits) in
-    let back = rw (run-back D (a .plan .leading) (a .digits .count) (s .pre .0 .count-is)) at (d .put-digits .ensures) in
+    let back = rw (run-back (a .plan .leading) (a .digits .count) D (omega (arith, s .pre .0 .count-is))) at (d .put-digits .ensures) in
     rw (t .if1 .taken)
     (puts-more _ _ _ (omega (arith, room t)) (p .put-byte .ensures)
     (puts-more _ _ _ (omega (arith, room t, p .put-byte .ensures .next-is)) (z .put-zeros .ensures)

@@ -1,11 +1,11 @@
-use mathlib.Core.Path.{_∙_}
-use Prim.Native.Nat.{ℕ, _+_, _-_, _≤_, zero-le}
 use mathlib.Core.Path.{_≡_}
+use Prim.Native.Nat.{ℕ, _+_, _-_, _≤_, zero-le}
 use native.Mathlib.Omega.{arith}
 use lib.ListN.{length, length-replicate}
 use Rattle.lexical_write_float.specs.Code.{digitsOf, fractionText, planText}
 use Rattle.lexical_write_float.proofs.PutLaws.{puts-more}
-use Rattle.lexical_write_float.proofs.PlanLaws.{plan-length, run-front, run-length}
+use Rattle.lexical_write_float.proofs.PlanLaws.{plan-length}
+use Rattle.lexical_write_integer.proofs.RunLaws.{run-front, run-length}
 use borrow.Author.Needs.{needs}
 use Rattle.lexical_write_float.proofs.plan.put_plan.Statement.{statement}
 use Rattle.lexical_write_float.proofs.plan.put_plan.Tie as tie
@@ -22,7 +22,7 @@ room : (c : tie.Start) → let a = c .args in a .plan .leading + a .plan .filled
 room c = let a = c .args in omega (arith, c .pre .2, plan-length (a .point) (a .plan) (digitsOf (a .digits)) (leading-in c))
 
 front : (c : tie.Start) → length (Rattle.lexical_write_integer.specs.Write.run 0 (c .args .plan .leading) (digitsOf (c .args .digits))) ≡ c .args .plan .leading
-front c = let k : c .args .plan .leading - 0 ≡ c .args .plan .leading = omega arith in run-length (digitsOf (c .args .digits)) 0 (c .args .plan .leading) (leading-in c) ∙ k
+front c = omega (arith, run-length 0 (c .args .plan .leading) (digitsOf (c .args .digits)), leading-in c)
 
 -- src/plan.rt:66:9
 put-digits-requires : tie.Need-put-digits-requires
@@ -56,7 +56,7 @@ returns c =
     let d = z .before .before .before .before in
     let s = d .before .before .before in
     let a = s .args in
-    puts-more _ _ _ zero-le (rw (run-front (digitsOf (a .digits)) (a .plan .leading)) at (d .put-digits .ensures)) (puts-more _ _ _ (omega (arith, room s, front s, d .put-digits .ensures .next-is)) (z .put-zeros .ensures) (f .put-fraction .ensures))
+    puts-more _ _ _ zero-le (rw (run-front (a .plan .leading) (digitsOf (a .digits))) at (d .put-digits .ensures)) (puts-more _ _ _ (omega (arith, room s, front s, d .put-digits .ensures .next-is)) (z .put-zeros .ensures) (f .put-fraction .ensures))
 
 pub put-plan-spec : {M : Type 1} → statement M
 put-plan-spec =

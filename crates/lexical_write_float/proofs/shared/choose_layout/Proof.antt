@@ -1,5 +1,5 @@
 use Rattle.lexical_format.proofs.CheckLaws.{break-read}
-use Rattle.lexical_write_float.specs.Text.{layoutOf}
+use Rattle.lexical_text.specs.Text.{layoutOf}
 use mathlib.Core.Path.{refl, sym}
 use borrow.Author.Needs.{needs}
 use Rattle.lexical_write_float.proofs.shared.choose_layout.Statement.{statement}

@@ -1,6 +1,7 @@
 use mathlib.Core.Path.{_∙_}
 use native.Mathlib.Omega.{arith}
-use Rattle.lexical_write_float.proofs.PowerLaws.{few-digits, count-is, power-length}
+use Rattle.lexical_write_float.proofs.PowerLaws.{count-is, power-length}
+use Rattle.lexical_text.proofs.LengthLaws.{few-digits}
 use borrow.Author.Needs.{needs}
 use Rattle.lexical_write_float.proofs.shared.exponent_length.Statement.{statement}
 use Rattle.lexical_write_float.proofs.shared.exponent_length.Tie as tie

@@ -1,7 +1,6 @@
 use Rattle.lexical_format.proofs.CheckLaws.{break-read}
 use Rattle.lexical_format.specs.Format.{outside}
-use mathlib.Core.Path.{ap}
-use Rattle.lexical_write_float.specs.Text.{isScientific}
+use Rattle.lexical_text.specs.Text.{isScientific}
 use mathlib.Core.Path.{refl, _∙_}
 use borrow.Author.Needs.{needs}
 use Rattle.lexical_write_float.proofs.shared.is_scientific.Statement.{statement}

@@ -1,11 +1,10 @@
 use native.Mathlib.Omega.{arith}
-use Rattle.lexical_write_float.specs.Code.{powerText}
+use Rattle.lexical_write_float.specs.Code.{powerText, signText}
 use Rattle.lexical_write_float.proofs.PowerLaws.{power-length}
 use Rattle.lexical_write_float.proofs.PutLaws.{puts-more}
 use Prim.Native.Nat.{_+_, _≤_}
 use lib.ListN.{length}
 use Rattle.lexical_write_integer.specs.Digits.{numeral}
-use Rattle.lexical_write_float.specs.Code.{signText}
 use borrow.Author.Needs.{needs}
 use Rattle.lexical_write_float.proofs.shared.write_exponent.Statement.{statement}
 use Rattle.lexical_write_float.proofs.shared.write_exponent.Tie as tie

@@ -1,7 +1,4 @@
-use mathlib.Core.List.{[], _∷_}
 use native.Mathlib.Omega.{arith}
-use lib.ListN.{length}
-use Rattle.lexical_write_float.specs.Code.{signText}
 use Rattle.lexical_write_float.proofs.PutLaws.{puts-none}
 use borrow.Author.Needs.{needs}
 use Rattle.lexical_write_float.proofs.shared.write_exponent_sign.Statement.{statement}

@@ -1,19 +1,17 @@
 use mathlib.Core.Bool.{true}
 use Rattle.lexical_util.specs.Digit.{isRadix}
-use Prim.Native.Nat.{_≤_}
+use Prim.Native.Nat.{_≤_, ℕ, _*_, _%_, _^_}
 use lib.IntN.{ℤ}
 use Rattle.lexical_util.proofs.DifferenceLaws.{widened}
-use Prim.Native.Nat.{ℕ, _*_, _%_, _^_}
-use mathlib.Core.Path.{_≡_, sym, ap, _∙_}
+use mathlib.Core.Path.{_≡_, ap, _∙_}
 use native.Mathlib.Omega.{arith}
-use mir.Syntax.{w16, w32}
-use mir.Val.{SFits, toZ, ofZ}
-use mir.Facts.{toZ-ofZ, sfits-widen}
+use mir.Syntax.{w16}
+use mir.Val.{SFits}
 use lib.ListN.{length}
 use Rattle.lexical_write_integer.specs.Digits.{numeral}
-use Rattle.lexical_write_float.specs.Value.{modulo, exactDigits}
+use Rattle.lexical_text.specs.Value.{modulo, exactDigits}
 use Rattle.lexical_write_float.proofs.PowerLaws.{count-is}
-use Rattle.lexical_write_float.proofs.ValueLaws.{exact-few}
+use Rattle.lexical_text.proofs.ValueLaws.{exact-few}
 use Rattle.lexical_write_float.proofs.TextLaws.{radix-known, shift-fits}
 use borrow.Author.Needs.{needs}
 use Rattle.lexical_write_float.proofs.write.digits_of.Statement.{statement}

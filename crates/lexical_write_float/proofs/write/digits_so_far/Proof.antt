@@ -1,12 +1,11 @@
-use mathlib.Core.Path.{_≡_, refl, ap}
+use mathlib.Core.Path.{_≡_, refl}
 use Prim.Native.Nat.{ℕ, zero, suc, _+_}
 use native.Mathlib.Omega.{arith}
 use mathlib.Core.List.{List}
 use lib.ListN.{length}
 use Rattle.lexical_format.specs.declared.format.NumberFormat.{NumberFormat}
 use Rattle.lexical_format.specs.declared.options.Options.{Options}
-use Rattle.lexical_write_float.specs.Text.{digitsSoFar}
-use borrow.Author.Needs.{needs}
+use Rattle.lexical_text.specs.Text.{digitsSoFar}
 use Rattle.lexical_write_float.proofs.write.digits_so_far.Statement.{statement}
 use Rattle.lexical_write_float.proofs.write.digits_so_far.Tie as tie
 use Rattle.lexical_write_float.proofs.write.digits_so_far.Reads as reads

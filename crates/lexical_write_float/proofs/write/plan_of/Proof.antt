@@ -1,5 +1,5 @@
 use mathlib.Core.List.{List}
-use Rattle.lexical_write_float.specs.Text.{point, positive}
+use Rattle.lexical_text.specs.Text.{point, positive}
 use Rattle.lexical_write_float.specs.Code.{IsPlan}
 use mathlib.Core.Path.{_≡_, ap, _∙_, subst}
 use lib.IntN.{natAbs}

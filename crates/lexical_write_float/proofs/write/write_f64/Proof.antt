@@ -1,16 +1,9 @@
-use mathlib.Core.Path.{_≡_}
-use Rattle.lexical_util.specs.Answer.{refused, done}
-use Rattle.lexical_format.specs.Format.{checkedFormat}
 use Rattle.lexical_write_float.specs.Code.{Passed}
-use Rattle.lexical_write_float.proofs.AnswerLaws.{float-answered, format-answered}
+use Rattle.lexical_write_float.proofs.AnswerLaws.{float-answered, format-answered, passed, floats-parts}
 use mathlib.Core.Path.{sym, ap, _∙_, subst}
-use mathlib.Core.List.{List}
-use Prim.Native.Nat.{ℕ}
 use lib.Dec.{T}
 use lib.Ieee.{binary64, fits}
-use Rattle.lexical_util.specs.Answer.{Answer, written, held}
 use Rattle.lexical_format.specs.Format.{ofWritingCheck}
-use Rattle.lexical_write_float.proofs.AnswerLaws.{passed, floats-parts}
 use borrow.Author.Needs.{needs}
 use Rattle.lexical_write_float.proofs.write.write_f64.Statement.{statement}
 use Rattle.lexical_write_float.proofs.write.write_f64.Tie as tie

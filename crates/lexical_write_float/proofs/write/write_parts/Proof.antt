@@ -1,4 +1,4 @@
-use mathlib.Core.Path.{refl, sym, _∙_, subst}
+use mathlib.Core.Path.{refl, subst}
 use Rattle.lexical_write_float.specs.Code.{FloatsParts}
 use borrow.Author.Needs.{needs}
 use Rattle.lexical_write_float.proofs.write.write_parts.Statement.{statement}

@@ -1,14 +1,12 @@
-use Prim.Native.Nat.{ℕ, _≤_, _<_}
+use Prim.Native.Nat.{ℕ, _≤_}
 use mathlib.Core.Path.{_≡_, sym, ap, ap₂, _∙_}
 use mathlib.Core.List.{List, _++_}
-use native.Mathlib.Omega.{arith}
-use lib.IntN.{ℤ, natAbs}
-use lib.ListN.{length}
+use lib.IntN.{natAbs}
 use Rattle.lexical_util.specs.Answer.{done, written, held}
 use Rattle.lexical_util.specs.Num.{scale, place}
-use Rattle.lexical_write_float.specs.Text.{point, exponentText, layoutOf, text}
+use Rattle.lexical_text.specs.Text.{point, exponentText, layoutOf, text}
 use Rattle.lexical_write_float.specs.Code.{rowOf, digitsOf, planText, bodyText, powerText}
-use Rattle.lexical_write_float.proofs.RangeLaws.{place-near}
+use Rattle.lexical_text.proofs.RangeLaws.{place-near}
 use Rattle.lexical_write_float.proofs.PowerLaws.{power-is}
 use Rattle.lexical_write_float.proofs.TextLaws.{Known, known, counted-some, power-few, IsLaid, laid-scientific, laid-negative, laid-positive}
 use borrow.Author.Needs.{needs}

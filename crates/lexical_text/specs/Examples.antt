@@ -13,7 +13,7 @@ use Rattle.lexical_format.specs.declared.format.NumberFormat.{NumberFormat}
 use Rattle.lexical_format.specs.declared.options.Options.{Options}
 use Rattle.lexical_format.specs.declared.options.RoundMode.{RoundMode}
 use Rattle.lexical_format.specs.declared.options.RoundMode.the-variants.{Round, Truncate}
-use Rattle.lexical_write_float.specs.Write.{writeText}
+use Rattle.lexical_text.specs.Write.{writeText}
 
 -- r/base/exponent radix; mark "^", all else default
 abbrev formatWith : ℕ → ℕ → ℕ → Bool → Bool → Bool → NumberFormat

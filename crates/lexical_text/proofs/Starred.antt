@@ -7,11 +7,11 @@ use Rattle.lexical_util.specs.Digit.{digitByte, digitValue, digitIn, isDigit, i
 use Rattle.lexical_util.specs.Examples.{failing}
 use Rattle.lexical_write_integer.specs.Digits.{digitsUpTo, digits, numeral}
 use Rattle.lexical_format.specs.Format.{pairs, findPair, pairOf, badByte, badBytes, badCounts, badBreaks, writingFormat}
-use Rattle.lexical_write_float.specs.Value.{normal, exactDigits}
-use Rattle.lexical_write_float.specs.Limit.{multipleOf, limited}
-use Rattle.lexical_write_float.specs.Text.{isScientific, layoutOf, scientific, exponentText, negative, positive, text}
-use Rattle.lexical_write_float.specs.Write.{limitedText, floatText, writeText}
-use Rattle.lexical_write_float.specs.Examples.{starred, unstarred, longest}
+use Rattle.lexical_text.specs.Value.{normal, exactDigits}
+use Rattle.lexical_text.specs.Limit.{multipleOf, limited}
+use Rattle.lexical_text.specs.Text.{isScientific, layoutOf, scientific, exponentText, negative, positive, text}
+use Rattle.lexical_text.specs.Write.{limitedText, floatText, writeText}
+use Rattle.lexical_text.specs.Examples.{starred, unstarred, longest}
 
 pub starred-hold : failing starred ≡ []
 unfolding failing starred writeText floatText limitedText text positive negative exponentText scientific layoutOf isScientific limited multipleOf exactDigits normal writingFormat badBreaks badCounts badBytes badByte pairOf findPair pairs numeral digits digitsUpTo isRadix isDigit digitIn digitValue digitByte round units odd size span climb trailingZeros

@@ -12,8 +12,8 @@ use Rattle.lexical_format.specs.declared.format.Pair.{Pair}
 use Rattle.lexical_format.specs.declared.format.NumberFormat.{NumberFormat}
 use Rattle.lexical_format.specs.declared.options.Options.{Options}
 use Rattle.lexical_format.specs.Format.{writingFormat}
-use Rattle.lexical_write_float.specs.Limit.{limited}
-use Rattle.lexical_write_float.specs.Text.{text}
+use Rattle.lexical_text.specs.Limit.{limited}
+use Rattle.lexical_text.specs.Text.{text}
 
 module _ (F : NumberFormat) (o : Options) where
   -- the digit limit, then the layout of the result

@@ -19,13 +19,13 @@ use Rattle.lexical_format.specs.declared.format.NumberFormat.{NumberFormat}
 use Rattle.lexical_format.specs.declared.options.Options.{Options}
 use Rattle.lexical_format.specs.Format.{writingFormat}
 use Rattle.lexical_format.proofs.FormatLaws.{power-whole, Writable, writable}
-use Rattle.lexical_write_float.specs.Value.{modulo, exactDigits}
-use Rattle.lexical_write_float.specs.Write.{limitedText, floatText, writeText}
-use Rattle.lexical_write_float.specs.Limit.{limited}
-use Rattle.lexical_write_float.specs.Claims.{FirstPlace, FirstDigit, LastDigit, LongestText, WholePower}
-use Rattle.lexical_write_float.proofs.ValueLaws.{first-place as place-is, first-digit as first-is, last-digit as last-is}
-use Rattle.lexical_write_float.proofs.RangeLaws.{limited-fits}
-use Rattle.lexical_write_float.proofs.LengthLaws.{text-length}
+use Rattle.lexical_text.specs.Value.{modulo, exactDigits}
+use Rattle.lexical_text.specs.Write.{limitedText, floatText, writeText}
+use Rattle.lexical_text.specs.Limit.{limited}
+use Rattle.lexical_text.specs.Claims.{FirstPlace, FirstDigit, LastDigit, LongestText, WholePower}
+use Rattle.lexical_text.proofs.ValueLaws.{first-place as place-is, first-digit as first-is, last-digit as last-is}
+use Rattle.lexical_text.proofs.RangeLaws.{limited-fits}
+use Rattle.lexical_text.proofs.LengthLaws.{text-length}
 
 pub first-place : FirstPlace
 first-place = place-is

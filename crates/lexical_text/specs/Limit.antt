@@ -6,7 +6,7 @@ use lib.Ieee.Nearest.{closest}
 use Rattle.lexical_util.specs.Num.{scale, place}
 use Rattle.lexical_format.specs.declared.options.RoundMode.{RoundMode}
 use Rattle.lexical_format.specs.declared.options.RoundMode.the-variants.{Round, Truncate}
-use Rattle.lexical_write_float.specs.Value.{Value, normal}
+use Rattle.lexical_text.specs.Value.{Value, normal}
 
 -- with most digits k, unit = 2 ^ (b * (p - k + 1)): its exponent
 abbrev pub unitExponent : ℕ → ℕ → ℤ → ℤ

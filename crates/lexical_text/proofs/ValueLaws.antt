@@ -15,8 +15,8 @@ use Rattle.lexical_util.proofs.ExponentLaws.{scale-is}
 use Rattle.lexical_util.proofs.PowerLaws.{size-more, size-pos}
 use Rattle.lexical_write_integer.specs.Digits.{digits, numeral}
 use Rattle.lexical_write_integer.proofs.DigitsLaws.{radix-above, count-bits, count-lt, first-pos, length-numeral}
-use Rattle.lexical_write_float.specs.Value.{Value, normal, modulo, exactDigits}
-use Rattle.lexical_write_float.proofs.Integers.{modulo-lt, floor-modulo, floor-add}
+use Rattle.lexical_text.specs.Value.{Value, normal, modulo, exactDigits}
+use Rattle.lexical_text.proofs.Integers.{modulo-lt, floor-modulo, floor-add}
 
 -- ---- significant bits
 pub size-shift : (m t : ℕ) → 0 < m → size (m * 2 ^ t) ≡ size m + t

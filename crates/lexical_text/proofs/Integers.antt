@@ -11,8 +11,8 @@ use lib.Signed.{shrZ, ltZ}
 use mir.Syntax.{w16}
 use mir.Val.{SFits, toZ, ofZ}
 use mir.Facts.{toZ-ofZ, toZ-pos}
-use Rattle.lexical_write_float.specs.Value.{modulo}
-use Rattle.lexical_write_float.specs.Code.{Between}
+use Rattle.lexical_text.specs.Value.{modulo}
+use Rattle.lexical_text.specs.Range.{Between}
 
 pub modulo-lt : (e : ℤ) (b : ℕ) → 0 < b → modulo e b < b
 modulo-lt (pos k) b B = mod-lt k B

@@ -14,8 +14,8 @@ use Rattle.lexical_format.specs.declared.format.Pair.{Pair}
 use Rattle.lexical_format.specs.declared.format.NumberFormat.{NumberFormat}
 use Rattle.lexical_format.specs.declared.options.Options.{Options}
 use Rattle.lexical_format.specs.Format.{writingFormat}
-use Rattle.lexical_write_float.specs.Value.{exactDigits}
-use Rattle.lexical_write_float.specs.Write.{writeText}
+use Rattle.lexical_text.specs.Value.{exactDigits}
+use Rattle.lexical_text.specs.Write.{writeText}
 
 -- the first digit's place is p: the last one's is floor (e / b), and the others stand above it
 abbrev pub FirstPlace : Type 0

@@ -12,16 +12,15 @@ use lib.Ieee.Digits.{size-lt, size-le}
 use lib.Ieee.Fits.{and-l, and-r}
 use Rattle.lexical_util.specs.Num.{scale, place}
 use Rattle.lexical_util.proofs.ExponentLaws.{scale-is}
-use Rattle.lexical_util.proofs.PowerLaws.{power-le}
+use Rattle.lexical_util.proofs.PowerLaws.{power-le, size-pos}
 use Rattle.lexical_format.specs.declared.options.RoundMode.{RoundMode}
-use Rattle.lexical_util.proofs.PowerLaws.{size-pos}
-use Rattle.lexical_write_float.specs.Value.{normal}
-use Rattle.lexical_write_float.specs.Code.{Between, Ranged}
-use Rattle.lexical_write_float.specs.Limit.{rounded, limited}
+use Rattle.lexical_text.specs.Value.{normal}
+use Rattle.lexical_text.specs.Range.{Between, Ranged}
+use Rattle.lexical_text.specs.Limit.{rounded, limited}
 use Rattle.lexical_util.proofs.DifferenceLaws.{by-larger}
-use Rattle.lexical_write_float.proofs.Integers.{between-add, between-wider}
-use Rattle.lexical_write_float.proofs.ValueLaws.{size-under, is-normal, normal-odd, scale-normal}
-use Rattle.lexical_write_float.proofs.LimitLaws.{rounded-le, kept, limited-kept, limited-cut}
+use Rattle.lexical_text.proofs.Integers.{between-add, between-wider}
+use Rattle.lexical_text.proofs.ValueLaws.{size-under, is-normal, normal-odd, scale-normal}
+use Rattle.lexical_text.proofs.LimitLaws.{rounded-le, kept, limited-kept, limited-cut}
 
 -- ---- a float of either width
 widths : (f : Format) → (prec f ≤ 53) × (suc (emax f) ≤ 1024) × (low f ≤ 1074)

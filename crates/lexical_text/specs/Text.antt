@@ -12,9 +12,9 @@ use Rattle.lexical_format.specs.declared.format.Pair.{Pair}
 use Rattle.lexical_format.specs.declared.format.NumberFormat.{NumberFormat}
 use Rattle.lexical_format.specs.declared.options.Options.{Options}
 use Rattle.lexical_format.specs.Format.{lowBreak, highBreak}
-use Rattle.lexical_write_float.specs.declared.layout.Layout.{Layout}
-use Rattle.lexical_write_float.specs.declared.layout.Layout.the-variants.{Scientific, Negative, Positive}
-use Rattle.lexical_write_float.specs.Value.{exactDigits}
+use Rattle.lexical_text.specs.declared.layout.Layout.{Layout}
+use Rattle.lexical_text.specs.declared.layout.Layout.the-variants.{Scientific, Negative, Positive}
+use Rattle.lexical_text.specs.Value.{exactDigits}
 
 -- n times "0"
 abbrev pub zeros : ℕ → List ℕ

@@ -1,33 +1,35 @@
 -- How long a text is, by its layout: with at most 64 digits in D and 1,200 least digits, and s from -1,074 to 1,024, no more than 2,275 bytes. Assumes nothing.
-use Prim.Native.Nat.{ℕ, zero, suc, _+_, _-_, _*_, _/_, _^_, _≤_, _<_, min, max}
+use Prim.Native.Nat.{ℕ, _+_, _-_, _*_, _/_, _^_, _≤_, _<_, min, max}
 use mathlib.Core.Path.{_≡_}
 use mathlib.Core.Bool.{Bool, true, false, not, cond, _&&_}
 use mathlib.Core.List.{List, [], _∷_, _++_}
-use native.Mathlib.Nat.{zero-mul, zero-lt-suc, lt-of-lt-of-le, mul-le-mul, div-le-self, pow-le-pow-left}
+use native.Mathlib.Nat.{lt-of-lt-of-le, mul-le-mul, div-le-self, pow-le-pow-left}
 use native.Mathlib.Omega.{arith}
 use lib.Dec.{ltb, leb·suc-zero}
 use lib.IntN.{ℤ, pos, negsuc, natAbs}
 use lib.Signed.{ltZ}
 use lib.ListN.{length, take, drop, length-append, length-replicate, length-take, length-drop}
-use lib.Pow.{pow-pos}
-use lib.Ieee.{size}
-use lib.Ieee.Digits.{size-le}
+use Rattle.lexical_util.specs.Digit.{isRadix}
 use Rattle.lexical_util.specs.Num.{scale, place}
 use Rattle.lexical_util.proofs.RadixLaws.{radix-bounds}
 use Rattle.lexical_write_integer.specs.Digits.{numeral}
-use Rattle.lexical_write_integer.proofs.DigitsLaws.{count-le, length-numeral, count-lt}
+use Rattle.lexical_write_integer.proofs.DigitsLaws.{count-le, length-numeral}
 use Rattle.lexical_format.specs.declared.format.Pair.{Pair}
 use Rattle.lexical_format.specs.declared.format.NumberFormat.{NumberFormat}
 use Rattle.lexical_format.specs.declared.options.Options.{Options}
 use Rattle.lexical_format.proofs.FormatLaws.{Writable}
-use Rattle.lexical_write_float.specs.declared.layout.Layout.the-variants.{Scientific, Negative, Positive}
-use Rattle.lexical_write_float.specs.Value.{modulo, exactDigits}
-use Rattle.lexical_write_float.specs.Code.{Between, Ranged}
-use Rattle.lexical_write_float.specs.Text.{zeros, point, least, trim, isScientific, layoutOf, scientific, exponentSign, exponentText, negative, positive, laidOut, digitsSoFar, text}
-use Rattle.lexical_write_float.proofs.Integers.{modulo-lt}
-use Rattle.lexical_write_float.proofs.ValueLaws.{exact-few}
-use Rattle.lexical_write_float.proofs.RangeLaws.{place-near}
-use Rattle.lexical_write_float.proofs.PowerLaws.{few-digits}
+use Rattle.lexical_text.specs.declared.layout.Layout.the-variants.{Scientific, Negative, Positive}
+use Rattle.lexical_text.specs.Value.{exactDigits}
+use Rattle.lexical_text.specs.Range.{Between, Ranged}
+use Rattle.lexical_text.specs.Text.{zeros, point, least, trim, isScientific, layoutOf, scientific, exponentSign, exponentText, negative, positive, laidOut, digitsSoFar, text}
+use Rattle.lexical_text.proofs.ValueLaws.{exact-few}
+use Rattle.lexical_text.proofs.RangeLaws.{place-near}
+
+-- a magnitude below 2 ^ 13 has at most 13 digits in any radix
+pub few-digits : (radix n : ℕ) → isRadix radix ≡ true → n < 8192 → length (numeral radix n) ≤ 13
+few-digits radix n R h =
+    let q = radix-bounds radix R in
+    omega (arith, length-numeral radix n, count-le radix (q .0) 12 n (lt-of-lt-of-le h (pow-le-pow-left (q .0) 13)))
 
 module _ (F : NumberFormat) (o : Options) (row : Pair) (W : Writable F o row) where
   -- ---- each layout, for a D of at most 64 digits

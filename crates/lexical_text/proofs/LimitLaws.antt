@@ -16,10 +16,10 @@ use Rattle.lexical_util.proofs.DifferenceLaws.{nat-less, nat-more, gap-above}
 use Rattle.lexical_util.proofs.ExponentLaws.{scale-is}
 use Rattle.lexical_format.specs.declared.options.RoundMode.{RoundMode}
 use Rattle.lexical_format.specs.declared.options.RoundMode.the-variants.{Round, Truncate}
-use Rattle.lexical_write_float.specs.Value.{normal, modulo}
-use Rattle.lexical_write_float.specs.Limit.{unitExponent, rounded, multipleOf, limited}
-use Rattle.lexical_write_float.proofs.Integers.{floor-modulo, times-below, move}
-use Rattle.lexical_write_float.proofs.ValueLaws.{normal-more}
+use Rattle.lexical_text.specs.Value.{normal, modulo}
+use Rattle.lexical_text.specs.Limit.{unitExponent, rounded, multipleOf, limited}
+use Rattle.lexical_text.proofs.Integers.{floor-modulo, times-below, move}
+use Rattle.lexical_text.proofs.ValueLaws.{normal-more}
 
 -- ---- rounding
 pub rounded-le : (mode : RoundMode) (a c : ℕ) → rounded mode a c ≤ suc (a / c)
