@@ -18,7 +18,7 @@ negative : (c : tie.Then1) → ltZ (c .before .before .args .exponent) (pos 0) �
 negative c = rw (toZ-ofZ (c .before .before .fits .exponent)) at (c .if1 .taken)
 
 unsigned-abs-requires : tie.Need-unsigned-abs-requires
-unsigned-abs-requires c κs = search needs
+unsigned-abs-requires c κs = tt
 
 sub-last : tie.Need-sub-last
 sub-last c = search needs

@@ -53,13 +53,13 @@ returns-2 : tie.Need-returns-2
 returns-2 c = let a = c .before .before .before .args in limited-zero (a .mode) (a .bits-per-digit) (a .digits) (a .value .mantissa) (a .value .exponent) (c .if2 .taken)
 
 sci-exp-requires : tie.Need-sci-exp-requires
-sci-exp-requires c κs = search needs
+sci-exp-requires c κs = tt
 
 kept-bits-requires : tie.Need-kept-bits-requires
 kept-bits-requires c κs = search needs
 
 significant-bits-requires : tie.Need-significant-bits-requires
-significant-bits-requires c κs = search needs
+significant-bits-requires c κs = tt
 
 sub-below : tie.Need-sub-below
 sub-below c = omega (arith, bits c)

@@ -1,31 +1,23 @@
+-- `lexical_write_float::binary::write_float_negative_exponent` meets its contract: one law for its plan. Assumes nothing.
 use lib.IntN.{natAbs}
 use Rattle.lexical_format.proofs.CheckLaws.{break-read}
 use mathlib.Core.Path.{ap, _∙_}
 use Prim.Native.Nat.{ℕ, _-_}
 use Rattle.lexical_write_float.proofs.PlanLaws as laws
-use borrow.Author.Needs.{needs}
 use Rattle.lexical_write_float.proofs.binary.write_float_negative_exponent.Statement.{
   statement,
 }
 use Rattle.lexical_write_float.proofs.binary.write_float_negative_exponent.Tie as tie
-use Rattle.lexical_write_float.proofs.binary.write_float_negative_exponent.Reads as reads
-use Rattle.lexical_write_float.proofs.binary.write_float_negative_exponent.Lts as lts
-use Rattle.lexical_util.proofs.unsigned_abs.Reads as unsigned-abs-reads
-use Rattle.lexical_write_float.proofs.shared.missing_digits.Reads as missing-digits-reads
 
--- src/binary.rt:23:30
 unsigned-abs-requires : tie.Need-unsigned-abs-requires
-unsigned-abs-requires c κs = search needs
+unsigned-abs-requires c κs = tt
 
--- src/binary.rt:23:9
 missing-digits-requires : tie.Need-missing-digits-requires
-missing-digits-requires c κs = search needs
+missing-digits-requires c κs = tt
 
--- src/binary.rt:29:18
 missing-digits-requires-2 : tie.Need-missing-digits-requires-2
-missing-digits-requires-2 c κs = search needs
+missing-digits-requires-2 c κs = tt
 
--- src/binary.rt:14:1
 returns : tie.Need-returns
 returns c = let s = c .before .before .before .before in let a = s .args in
     let far = c .before .before .unsigned-abs .ensures ∙ ap natAbs (break-read (a .p .0) (c .before .before .before .struct-told .given .0 .1)) in

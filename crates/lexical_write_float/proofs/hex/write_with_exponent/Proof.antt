@@ -1,3 +1,4 @@
+-- `lexical_write_float::hex::write_with_exponent` meets its contract: plan and exponent are measured, and put where they have room. Assumes nothing.
 use Prim.Native.Nat.{ℕ, _+_, zero-le}
 use mathlib.Core.Path.{_≡_, sym, ap, _∙_}
 use mathlib.Core.List.{List, _++_}
@@ -10,12 +11,6 @@ use Rattle.lexical_write_float.proofs.PutLaws.{puts-more, answered, kep
 use borrow.Author.Needs.{needs}
 use Rattle.lexical_write_float.proofs.hex.write_with_exponent.Statement.{statement}
 use Rattle.lexical_write_float.proofs.hex.write_with_exponent.Tie as tie
-use Rattle.lexical_write_float.proofs.hex.write_with_exponent.Reads as reads
-use Rattle.lexical_write_float.proofs.hex.write_with_exponent.Lts as lts
-use Rattle.lexical_write_float.proofs.plan.plan_length.Reads as plan-length-reads
-use Rattle.lexical_write_float.proofs.plan.put_plan.Reads as put-plan-reads
-use Rattle.lexical_write_float.proofs.shared.exponent_length.Reads as exponent-length-reads
-use Rattle.lexical_write_float.proofs.shared.write_exponent.Reads as write-exponent-reads
 
 abbrev front : tie.Start → List ℕ
 front c = let a = c .args in planText (point (a .format) (a .options)) (a .plan) (digitsOf (a .digits))
@@ -33,33 +28,27 @@ tail-length c = c .exponent-length .ensures .0 (c .before .before .before .args 
 measured : (c : tie.After-exponent-length) → c .before .plan-length .result + c .exponent-length .result ≡ length (front (c .before .before .before) ++ tail (c .before .before .before))
 measured c = let s = c .before .before .before in omega (arith, front-length c, tail-length c, length-append (front s) (tail s))
 
--- src/hex.rt:78:18
 plan-length-requires : tie.Need-plan-length-requires
 plan-length-requires c κs = (c .before .pre .0 .few, c .before .pre .1)
 
--- src/hex.rt:78:52
 exponent-length-requires : tie.Need-exponent-length-requires
 exponent-length-requires c κs = let s = c .before .before in (s .pre .2, s .pre .3)
 
--- src/hex.rt:78:18
 add-length : tie.Need-add-length
 add-length c = omega (arith, c .before .plan-length .ensures .1, c .exponent-length .ensures .1)
 
--- src/hex.rt:80:9
 returns : tie.Need-returns
 returns c =
     let m = c .before in
     let s = m .before .before .before in
     (short (front s ++ tail s) (s .args .buffer .now) (omega (arith, measured m)), short-held (front s ++ tail s) (s .args .buffer .now) (omega (arith, measured m)))
 
--- src/hex.rt:85:9
 put-plan-requires : tie.Need-put-plan-requires
 put-plan-requires c κs =
     let m = c .before .before in
     let s = m .before .before .before in
     (s .pre .0, s .pre .1, omega (arith, front-length m))
 
--- src/hex.rt:86:5
 write-exponent-requires : tie.Need-write-exponent-requires
 write-exponent-requires c κs =
     let p = c .before .before .before in
@@ -67,11 +56,9 @@ write-exponent-requires c κs =
     let s = m .before .before .before in
     (s .pre .2, omega (arith, front-length m, tail-length m, p .put-plan .ensures .next-is))
 
--- src/hex.rt:64:1
 same-length : tie.Need-same-length
 same-length c = search needs
 
--- src/hex.rt:64:1
 returns-2 : tie.Need-returns-2
 returns-2 c =
     let x = c .before .before in

@@ -1,25 +1,20 @@
+-- `lexical_write_float::pieces::put_byte` meets its contract: one store. Assumes nothing.
 use Rattle.lexical_write_float.proofs.PutLaws.{put-one}
 use mathlib.Core.Path.{refl}
 use native.Mathlib.Omega.{arith}
 use borrow.Author.Needs.{needs}
 use Rattle.lexical_write_float.proofs.pieces.put_byte.Statement.{statement}
 use Rattle.lexical_write_float.proofs.pieces.put_byte.Tie as tie
-use Rattle.lexical_write_float.proofs.pieces.put_byte.Reads as reads
-use Rattle.lexical_write_float.proofs.pieces.put_byte.Lts as lts
 
--- src/pieces.rt:12:5
 slice-write-buffer : tie.Need-slice-write-buffer
 slice-write-buffer c = search needs
 
--- src/pieces.rt:13:5
 add-result : tie.Need-add-result
 add-result c = search needs
 
--- src/pieces.rt:8:1
 same-length : tie.Need-same-length
 same-length c = search needs
 
--- src/pieces.rt:8:1
 returns : tie.Need-returns
 returns c = record { next-is = refl; out-is = put-one _ _ _ (omega arith) }
 

@@ -1,3 +1,4 @@
+-- `lexical_write_float::pieces::put_integer` meets its contract: the digits call has room, so it writes the digits. Assumes nothing.
 use mathlib.Core.Path.{_≡_, sym, ap, _∙_}
 use native.Mathlib.Omega.{arith}
 use Rattle.lexical_util.specs.Answer.{done, ofWritten}
@@ -7,61 +8,47 @@ use Rattle.lexical_write_float.proofs.PutLaws.{part-count, part-puts, p
 use borrow.Author.Needs.{needs}
 use Rattle.lexical_write_float.proofs.pieces.put_integer.Statement.{statement}
 use Rattle.lexical_write_float.proofs.pieces.put_integer.Tie as tie
-use Rattle.lexical_write_float.proofs.pieces.put_integer.Reads as reads
-use Rattle.lexical_write_float.proofs.pieces.put_integer.Lts as lts
-use Rattle.lexical_write_integer.proofs.write_integer.Reads as write-integer-reads
 
 asked : (c : tie.Start) → digitsText (c .args .value) (c .args .radix) ≡ done (numeral (c .args .radix) (c .args .value))
 unfolding digitsText
 asked c = rw (c .pre .0)
 
--- src/pieces.rt:38:70
 sub-write-integer : tie.Need-sub-write-integer
 sub-write-integer c = search needs
 
--- src/pieces.rt:38:70
 part-write-integer-start : tie.Need-part-write-integer-start
 part-write-integer-start c = search needs
 
--- src/pieces.rt:38:70
 part-write-integer-end : tie.Need-part-write-integer-end
 part-write-integer-end c = search needs
 
--- src/pieces.rt:38:9
 write-integer-requires : tie.Need-write-integer-requires
-write-integer-requires c κs = search needs
+write-integer-requires c κs = tt
 
--- src/pieces.rt:40:25
 enum-known-written : tie.Need-enum-known-written
 enum-known-written c = search needs
 
--- src/pieces.rt:40:35
 add-result : tie.Need-add-result
 add-result c =
     let w = c .before .before .before .before .before in
     let s = w .before .before .before in
     omega (arith, part-count _ _ (s .args .buffer .now) (s .args .at) (asked s) (s .pre .1) _ (sym (ap ofWritten (c .before .written .given .1)) ∙ w .write-integer .ensures .0))
 
--- src/pieces.rt:41:32
 enum-told : tie.Need-enum-told
 enum-told c = search needs
 
--- src/pieces.rt:34:1
 same-length : tie.Need-same-length
 same-length c = search needs
 
--- src/pieces.rt:34:1
 returns : tie.Need-returns
 returns c =
     let w = c .before .before .before .before .before in
     let s = w .before .before .before in
     part-puts _ _ (s .args .buffer .now) (s .args .at) (asked s) (s .pre .1) _ _ (sym (ap ofWritten (c .before .written .given .1)) ∙ w .write-integer .ensures .0) (w .write-integer .ensures .1)
 
--- src/pieces.rt:34:1
 same-length-2 : tie.Need-same-length-2
 same-length-2 c = search needs
 
--- src/pieces.rt:34:1
 returns-2 : tie.Need-returns-2
 returns-2 c =
     let w = c .before .before .before .before in

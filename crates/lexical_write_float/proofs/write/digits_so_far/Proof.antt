@@ -1,3 +1,4 @@
+-- `lexical_write_float::write::digits_so_far` meets its contract: zero, or another number. Assumes nothing.
 use mathlib.Core.Path.{_≡_, refl}
 use Prim.Native.Nat.{ℕ, zero, suc, _+_}
 use native.Mathlib.Omega.{arith}
@@ -8,8 +9,6 @@ use Rattle.lexical_format.specs.declared.options.Options.{Options}
 use Rattle.lexical_text.specs.Text.{digitsSoFar}
 use Rattle.lexical_write_float.proofs.write.digits_so_far.Statement.{statement}
 use Rattle.lexical_write_float.proofs.write.digits_so_far.Tie as tie
-use Rattle.lexical_write_float.proofs.write.digits_so_far.Reads as reads
-use Rattle.lexical_write_float.proofs.write.digits_so_far.Lts as lts
 
 of-zero : (F : NumberFormat) (o : Options) (m : ℕ) (D : List ℕ) → m ≡ 0 → 1 ≡ digitsSoFar F o m D
 of-zero F o zero D e = refl
@@ -19,15 +18,12 @@ of-other : (F : NumberFormat) (o : Options) (m : ℕ) (D : List ℕ) → (m ≡ 
 of-other F o zero D n = absurd (n refl)
 of-other F o (suc m) D n = refl
 
--- src/write.rt:55:35
 add-result : tie.Need-add-result
 add-result c = omega arith
 
--- src/write.rt:51:1
 returns : tie.Need-returns
 returns c = λ F o D e. of-zero F o (c .before .args .mantissa) D (c .if1 .taken)
 
--- src/write.rt:51:1
 returns-2 : tie.Need-returns-2
 returns-2 c = λ F o D e. rw e at (of-other F o (c .before .args .mantissa) D (c .if1 .left))
 

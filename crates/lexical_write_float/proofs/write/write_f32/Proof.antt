@@ -1,3 +1,4 @@
+-- `lexical_write_float::write::write_f32` meets its contract: the check's refusal, or what is asked for by the parts. Assumes nothing.
 use Rattle.lexical_write_float.specs.Code.{Passed}
 use Rattle.lexical_write_float.proofs.AnswerLaws.{float-answered, format-answered, passed, floats-parts}
 use mathlib.Core.Path.{sym, ap, _∙_, subst}
@@ -7,11 +8,6 @@ use Rattle.lexical_format.specs.Format.{ofWritingCheck}
 use borrow.Author.Needs.{needs}
 use Rattle.lexical_write_float.proofs.write.write_f32.Statement.{statement}
 use Rattle.lexical_write_float.proofs.write.write_f32.Tie as tie
-use Rattle.lexical_write_float.proofs.write.write_f32.Reads as reads
-use Rattle.lexical_write_float.proofs.write.write_f32.Lts as lts
-use Rattle.lexical_format.proofs.check.Reads as check-reads
-use Rattle.lexical_util.proofs.parts_f32.Reads as parts-f32-reads
-use Rattle.lexical_write_float.proofs.write.write_parts.Reads as write-parts-reads
 
 admitted : (c : tie.After-checked) → Passed (c .before .before .before .before .args .format) (c .before .before .before .before .args .options) (c .checked .given .0 .0)
 admitted c = passed _ _ _ (sym (ap ofWritingCheck (c .checked .given .1)) ∙ c .before .before .check .ensures)
@@ -19,19 +15,15 @@ admitted c = passed _ _ _ (sym (ap ofWritingCheck (c .checked .given .1)) ∙ c 
 owned : (c : tie.Start) → T (fits binary32 (c .args .x))
 owned c = subst T (sym (c .good .0 .1)) tt
 
--- src/write.rt:173:11
 check-requires : tie.Need-check-requires
-check-requires c κs = search needs
+check-requires c κs = tt
 
--- src/write.rt:174:30
 enum-known-checked : tie.Need-enum-known-checked
 enum-known-checked c = search needs
 
--- src/write.rt:175:25
 parts-f32-requires : tie.Need-parts-f32-requires
-parts-f32-requires c κs = search needs
+parts-f32-requires c κs = tt
 
--- src/write.rt:175:13
 write-parts-requires : tie.Need-write-parts-requires
 write-parts-requires c κs =
     let p = c .before in
@@ -39,15 +31,12 @@ write-parts-requires c κs =
     let s = k .before .before .before .before in
     (admitted k, floats-parts binary32 (s .args .x) _ (owned s) (p .parts-f32 .ensures .0) (p .parts-f32 .ensures .1))
 
--- src/write.rt:177:31
 enum-known-refusal : tie.Need-enum-known-refusal
 enum-known-refusal c = search needs
 
--- src/write.rt:167:1
 same-length : tie.Need-same-length
 same-length c = search needs
 
--- src/write.rt:167:1
 returns : tie.Need-returns
 returns c =
     let w = c .before .before in
@@ -56,7 +45,6 @@ returns c =
     let s = k .before .before .before .before in
     float-answered binary32 (s .args .format) (s .args .options) (s .args .x) (s .args .buffer .now) (owned s) _ _ _ _ (admitted k) (p .parts-f32 .ensures .0) (p .parts-f32 .ensures .1) (w .write-parts .ensures .0) (w .write-parts .ensures .1)
 
--- src/write.rt:167:1
 returns-2 : tie.Need-returns-2
 returns-2 c =
     let k = c .before in

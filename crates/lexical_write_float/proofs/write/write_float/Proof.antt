@@ -1,3 +1,4 @@
+-- `lexical_write_float::write::write_float` meets its contract: the normal form is the float's own, and the limited value may be written. Assumes nothing.
 use mathlib.Core.Path.{ap, _∙_}
 use mathlib.Core.List.{List}
 use Prim.Native.Nat.{ℕ}
@@ -7,17 +8,10 @@ use Rattle.lexical_write_float.proofs.TextLaws.{known}
 use borrow.Author.Needs.{needs}
 use Rattle.lexical_write_float.proofs.write.write_float.Statement.{statement}
 use Rattle.lexical_write_float.proofs.write.write_float.Tie as tie
-use Rattle.lexical_write_float.proofs.write.write_float.Reads as reads
-use Rattle.lexical_write_float.proofs.write.write_float.Lts as lts
-use Rattle.lexical_write_float.proofs.binary.normalized.Reads as normalized-reads
-use Rattle.lexical_write_float.proofs.binary.truncate_and_round.Reads as truncate-and-round-reads
-use Rattle.lexical_write_float.proofs.write.write_value.Reads as write-value-reads
 
--- src/write.rt:120:9
 normalized-requires : tie.Need-normalized-requires
 normalized-requires c κs = search needs
 
--- src/write.rt:123:9
 truncate-and-round-requires : tie.Need-truncate-and-round-requires
 truncate-and-round-requires c κs =
     let s = c .before .before in
@@ -25,7 +19,6 @@ truncate-and-round-requires c κs =
     let n = normal-near _ (s .pre .1) _ (c .normalized .ensures) in
     (n .0, n .1, K .some-bits, K .few-bits, K .few-most)
 
--- src/write.rt:124:5
 write-value-requires : tie.Need-write-value-requires
 write-value-requires c κs =
     let t = c .before in
@@ -33,11 +26,9 @@ write-value-requires c κs =
     let s = n .before .before in
     (s .pre .0, limited-near _ (s .pre .1) _ (n .normalized .ensures) _ _ _ _ (known _ _ _ (s .pre .0) .some-bits) (t .truncate-and-round .ensures))
 
--- src/write.rt:109:1
 same-length : tie.Need-same-length
 same-length c = search needs
 
--- src/write.rt:109:1
 returns : tie.Need-returns
 returns c =
     let w = c .before .before in

@@ -1,3 +1,4 @@
+-- `lexical_write_float::write::write_value` meets its contract: D, p, the digits so far and the layout are those of the definition, so the planned text is its text. Assumes nothing.
 use Prim.Native.Nat.{ℕ, _≤_}
 use mathlib.Core.Path.{_≡_, sym, ap, ap₂, _∙_}
 use mathlib.Core.List.{List, _++_}
@@ -12,17 +13,6 @@ use Rattle.lexical_write_float.proofs.TextLaws.{Known, known, counted-s
 use borrow.Author.Needs.{needs}
 use Rattle.lexical_write_float.proofs.write.write_value.Statement.{statement}
 use Rattle.lexical_write_float.proofs.write.write_value.Tie as tie
-use Rattle.lexical_write_float.proofs.write.write_value.Reads as reads
-use Rattle.lexical_write_float.proofs.write.write_value.Lts as lts
-use Rattle.lexical_util.proofs.base_exponent.Reads as base-exponent-reads
-use Rattle.lexical_util.proofs.digit_exponent.Reads as digit-exponent-reads
-use Rattle.lexical_util.proofs.sci_exp.Reads as sci-exp-reads
-use Rattle.lexical_write_float.proofs.hex.write_with_exponent.Reads as write-with-exponent-reads
-use Rattle.lexical_write_float.proofs.plan.write_plan.Reads as write-plan-reads
-use Rattle.lexical_write_float.proofs.shared.choose_layout.Reads as choose-layout-reads
-use Rattle.lexical_write_float.proofs.write.digits_of.Reads as digits-of-reads
-use Rattle.lexical_write_float.proofs.write.digits_so_far.Reads as digits-so-far-reads
-use Rattle.lexical_write_float.proofs.write.plan_of.Reads as plan-of-reads
 
 abbrev start : tie.After-digit-exponent → tie.Start
 start c = c .before .before .before
@@ -61,42 +51,33 @@ laid c =
       layout-is = c .before .choose-layout .ensures (a .options) (K .low) (K .high) ∙ ap (layoutOf (a .format) (a .options)) (d .before .before .sci-exp .ensures .0);
     }
 
--- src/write.rt:92:9
 sci-exp-requires : tie.Need-sci-exp-requires
-sci-exp-requires c κs = search needs
+sci-exp-requires c κs = tt
 
--- src/write.rt:93:9
 digit-exponent-requires : tie.Need-digit-exponent-requires
-digit-exponent-requires c κs = search needs
+digit-exponent-requires c κs = tt
 
--- src/write.rt:94:9
 digits-of-requires : tie.Need-digits-of-requires
 digits-of-requires c κs = let s = start c in let K = format-known s in (K .radix-is, K .some-bits, K .few-bits, s .pre .1 .few)
 
--- src/write.rt:95:9
 digits-so-far-requires : tie.Need-digits-so-far-requires
 digits-so-far-requires c κs = search needs
 
--- src/write.rt:96:9
 choose-layout-requires : tie.Need-choose-layout-requires
-choose-layout-requires c κs = search needs
+choose-layout-requires c κs = tt
 
--- src/write.rt:97:9
 plan-of-requires : tie.Need-plan-of-requires
 plan-of-requires c κs =
     let d = c .before .before in
     let s = start (d .before) in
     (counted-some _ (d .digits-of .ensures .1), near (d .before), format-known s .few-least)
 
--- src/write.rt:100:17
 enum-told : tie.Need-enum-told
 enum-told c = search needs
 
--- src/write.rt:100:17
 base-exponent-requires : tie.Need-base-exponent-requires
-base-exponent-requires c κs = search needs
+base-exponent-requires c κs = tt
 
--- src/write.rt:101:13
 write-with-exponent-requires : tie.Need-write-with-exponent-requires
 write-with-exponent-requires c κs =
     let b = c .before in
@@ -105,27 +86,21 @@ write-with-exponent-requires c κs =
     let s = start (d .before) in
     (d .digits-of .ensures .1, p .plan-of .ensures .small, format-known s .power-radix, rw (b .base-exponent .ensures .1 .0) (power-few (s .args .checked .b) (s .args .checked .c) (d .before .digit-exponent .result .0) (format-known s .few-bits) (near (d .before))))
 
--- src/write.rt:103:77
 enum-told-2 : tie.Need-enum-told-2
 enum-told-2 c = search needs
 
--- src/write.rt:103:29
 write-plan-requires : tie.Need-write-plan-requires
 write-plan-requires c κs = let p = c .before .before .before in (p .before .before .before .digits-of .ensures .1, p .plan-of .ensures .small)
 
--- src/write.rt:104:77
 enum-told-3 : tie.Need-enum-told-3
 enum-told-3 c = search needs
 
--- src/write.rt:104:29
 write-plan-requires-2 : tie.Need-write-plan-requires-2
 write-plan-requires-2 c κs = let p = c .before .before .before in (p .before .before .before .digits-of .ensures .1, p .plan-of .ensures .small)
 
--- src/write.rt:81:1
 same-length : tie.Need-same-length
 same-length c = search needs
 
--- src/write.rt:81:1
 returns : tie.Need-returns
 returns c =
     let w = c .before .before in
@@ -139,11 +114,9 @@ returns c =
     let same = ap₂ {A = List ℕ} {B = List ℕ} {C = List ℕ} (λ x y. x ++ y) (planned p) tail ∙ laid-scientific _ _ _ _ _ _ _ _ _ (laid p) (b .before .enum-told .given .1) in
     (w .write-with-exponent .ensures .0 ∙ ap (λ (t : List ℕ). written (done t) (a .buffer .now)) same, w .write-with-exponent .ensures .1 ∙ ap (λ (t : List ℕ). held (done t) (a .buffer .now)) same)
 
--- src/write.rt:81:1
 same-length-2 : tie.Need-same-length-2
 same-length-2 c = search needs
 
--- src/write.rt:81:1
 returns-2 : tie.Need-returns-2
 returns-2 c =
     let w = c .before .before in
@@ -152,11 +125,9 @@ returns-2 c =
     let same : body p ≡ whole s = planned p ∙ laid-negative _ _ _ _ _ _ _ _ _ (laid p) (w .before .before .enum-told2 .given .1) in
     (w .write-plan .ensures .0 ∙ ap (λ (t : List ℕ). written (done t) (s .args .buffer .now)) same, w .write-plan .ensures .1 ∙ ap (λ (t : List ℕ). held (done t) (s .args .buffer .now)) same)
 
--- src/write.rt:81:1
 same-length-3 : tie.Need-same-length-3
 same-length-3 c = search needs
 
--- src/write.rt:81:1
 returns-3 : tie.Need-returns-3
 returns-3 c =
     let w = c .before .before in
