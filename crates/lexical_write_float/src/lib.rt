@@ -2,7 +2,7 @@
 mod binary;
 mod hex;
 mod pieces;
-pub mod plan;
+mod plan;
 mod shared;
 mod write;
 

@@ -12,13 +12,13 @@ use lexical_util::Refusal;
 use lexical_util::Written;
 
 // D by the number that it spells in radix 2^bits_per_digit, and how many digits it has.
-pub struct Digits {
+pub(crate) struct Digits {
     pub value: u64,
     pub bits_per_digit: u32,
     pub count: usize,
 }
 
-pub struct Plan {
+pub(crate) struct Plan {
     // How many digits of D stand in front.
     pub leading: usize,
     // Zeros behind them, which fill the places before the point.
