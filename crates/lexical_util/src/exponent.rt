@@ -47,6 +47,21 @@ pub fn unsigned_abs(value: i32) -> u32
     value as u32
 }
 
+// value / divisor, and 0 for a divisor of 0. Digits have 1 to 5 bits, and a quotient by a constant takes a fraction of the time of one by a variable.
+fn quotient(value: u64, divisor: u32) -> u64
+    ensures { λ r. ⌜ r ≡ value / divisor ⌝ }
+{
+    match divisor {
+        0 => 0,
+        1 => value,
+        2 => value / 2,
+        3 => value / 3,
+        4 => value / 4,
+        5 => value / 5,
+        _ => value / divisor as u64,
+    }
+}
+
 // value / base, rounded up. The sum is taken at twice the width, where it has room.
 fn fast_ceildiv(value: u32, base: u32) -> u32
     requires { ⌜ 0 < base ⌝ }
@@ -54,7 +69,7 @@ fn fast_ceildiv(value: u32, base: u32) -> u32
     ensures least { λ r. ⌜ r * base < value + base ⌝ }
 {
     let more = base - 1;
-    ((value as u64 + more as u64) / base as u64) as u32
+    quotient(value as u64 + more as u64, base) as u32
 }
 
 // The place of a value's first digit: s / b toward minus infinity, so that of a negative s the magnitude is rounded up. No radix has digits of no bits; there the definition has -1 for a negative s, and else 0.
@@ -74,7 +89,7 @@ pub fn digit_exponent(s: BitExponent, bits_per_digit: u32) -> DigitExponent
     if bits_per_digit == 0 {
         return DigitExponent(0);
     }
-    DigitExponent((magnitude / bits_per_digit) as i32)
+    DigitExponent(quotient(magnitude as u64, bits_per_digit) as i32)
 }
 
 // The exponent that a text has for a place: p * b / c, which is whole where c divides b, as in every pair. The product is taken at twice the width, where it has room. No base has no bits; there the definition has 0.
@@ -89,5 +104,5 @@ pub fn base_exponent(p: DigitExponent, bits_per_digit: u32, bits_per_base: u32) 
         return BaseExponent(negative, 0);
     }
     let bits = unsigned_abs(digits) as u64 * bits_per_digit as u64;
-    BaseExponent(negative, bits / bits_per_base as u64)
+    BaseExponent(negative, quotient(bits, bits_per_base))
 }

@@ -36,14 +36,16 @@ cast-bits c = search needs
 mul-bits : tie.Need-mul-bits
 mul-bits c = product-fits _ _ (omega arith) (omega arith)
 
-div-t10 : tie.Need-div-t10
-div-t10 c = search needs
+quotient-requires : tie.Need-quotient-requires
+quotient-requires c κs = tt
 
 returns-2 : tie.Need-returns-2
 returns-2 c =
-    let a = c .before .before .before .args in
-    (sign (c .before .before), (rw (magnitude c), rw (magnitude c) (power-exact (a .bits-per-digit) (a .bits-per-base) (a .p .0))))
+    let u = c .before in
+    let a = u .before .before .before .args in
+    let q = c .quotient .ensures in
+    (sign (u .before .before), (rw (q, magnitude u), rw (q, magnitude u) (power-exact (a .bits-per-digit) (a .bits-per-base) (a .p .0))))
 
 pub base-exponent-spec : {M : Type 1} → statement M
 base-exponent-spec =
-    tie.close (tie.spec returns unsigned-abs-requires cast-bits mul-bits div-t10 returns-2)
+    tie.close (tie.spec returns unsigned-abs-requires cast-bits mul-bits quotient-requires returns-2)

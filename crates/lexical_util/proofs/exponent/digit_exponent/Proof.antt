@@ -70,18 +70,23 @@ returns-2 c = floored _ _ _ (rw (below c, toZ-ofZ (below-fits c), toZ-ofZ (wante
 returns-3 : tie.Need-returns-3
 returns-3 c = floored _ _ _ (place-none-above (c .before .before .before .before .args .s .0) _ (other (c .before)) (c .if3 .taken))
 
-div-t11 : tie.Need-div-t11
-div-t11 c = search needs
+cast-quotient : tie.Need-cast-quotient
+cast-quotient c = search needs
 
-cast-t12 : tie.Need-cast-t12
-cast-t12 c =
-    let a = c .before .before .before .before .args in
-    rw (magnitude (c .before .before), place-above (a .s .0) (a .bits-per-digit) (other (c .before))) (wanted-fits (c .before .before .before))
+quotient-requires : tie.Need-quotient-requires
+quotient-requires c κs = tt
+
+-- any other s: p is the quotient
+above : (c : tie.After-quotient) → pos (c .quotient .result) ≡ wanted (c .before .before .before .before)
+above c =
+    let a = c .before .before .before .before .before .args in
+    rw (c .quotient .ensures, magnitude (c .before .before .before)) (place-above (a .s .0) (a .bits-per-digit) (other (c .before .before)))
+
+cast-t13 : tie.Need-cast-t13
+cast-t13 c = rw (above c) (wanted-fits (c .before .before .before .before))
 
 returns-4 : tie.Need-returns-4
-returns-4 c =
-    let a = c .before .before .before .before .args in
-    floored _ _ _ (toZ-pos w32 (cast-t12 c .sfits) ∙ rw (magnitude (c .before .before)) (place-above (a .s .0) (a .bits-per-digit) (other (c .before))))
+returns-4 c = floored _ _ _ (toZ-pos w32 (cast-t13 c .sfits) ∙ above c)
 
 pub digit-exponent-spec : {M : Type 1} → statement M
 digit-exponent-spec =
@@ -95,6 +100,7 @@ digit-exponent-spec =
     cast-t10
     returns-2
     returns-3
-    div-t11
-    cast-t12
+    cast-quotient
+    quotient-requires
+    cast-t13
     returns-4)

@@ -8,21 +8,21 @@ use Rattle.lexical_util.proofs.exponent.fast_ceildiv.Tie as tie
 sub-more : tie.Need-sub-more
 sub-more c = search needs
 
+cast-quotient : tie.Need-cast-quotient
+cast-quotient c = search needs
+
+add-quotient : tie.Need-add-quotient
+add-quotient c = search needs
+
+quotient-requires : tie.Need-quotient-requires
+quotient-requires c κs = tt
+
 cast-result : tie.Need-cast-result
-cast-result c = search needs
-
-add-result : tie.Need-add-result
-add-result c = search needs
-
-div-result : tie.Need-div-result
-div-result c = search needs
-
-cast-result-2 : tie.Need-cast-result-2
-cast-result-2 c = record { fits = quotient-lt _ _ 4294967296 (c .pre) (omega arith) }
+cast-result c = rw (c .quotient .ensures) (record { fits = quotient-lt _ _ 4294967296 (c .before .pre) (omega arith) })
 
 returns : tie.Need-returns
-returns c = ceil-bounds (c .args .value) (c .args .base) _ (c .pre) (omega arith)
+returns c = rw (c .quotient .ensures) (ceil-bounds (c .before .args .value) (c .before .args .base) _ (c .before .pre) (omega arith))
 
 pub fast-ceildiv-spec : {M : Type 1} → statement M
 fast-ceildiv-spec =
-    tie.close (tie.spec sub-more cast-result add-result div-result cast-result-2 returns)
+    tie.close (tie.spec sub-more cast-quotient add-quotient quotient-requires cast-result returns)
