@@ -1,5 +1,5 @@
 -- The laws of the format's check: the search of the table, a digit as point or mark, the breaks, and checks in two parts. Assumes nothing.
-use Prim.Native.Nat.{ℕ, zero, suc, _+_, _^_, _<_}
+use Prim.Native.Nat.{ℕ, zero, suc, _+_, _<_}
 use mathlib.Core.Path.{_≡_, refl, sym, ap, _∙_}
 use mathlib.Core.Bool.{Bool, true, false, cond, _&&_}
 use mathlib.Core.List.{List, [], _∷_, _++_}
@@ -9,10 +9,6 @@ use lib.Dec.{ltb, eqb}
 use lib.IntN.{ℤ, pos, negsuc}
 use lib.ListN.{length, drop, getD}
 use lib.Seq.{drop-cons}
-use lib.Signed.{mag}
-use mir.Facts.{toZ-ofZ}
-use mir.Syntax.{w32}
-use mir.Val.{hbits, toZ, ofZ}
 use Rattle.lexical_util.specs.Answer.{Answer, done, refused, andThen, Check, checked}
 use Rattle.lexical_util.specs.Digit.{digitValue, isSome, digitIn, isDigit}
 use Rattle.lexical_format.specs.declared.format.Pair.{Pair}
@@ -47,10 +43,6 @@ unfolding isDigit digitIn
 no-digit radix x e = rw e
 
 -- ---- a break
--- its bits, read as a number
-pub break-read : (z : ℤ) → mag z < 2 ^ hbits w32 → toZ w32 (ofZ w32 z) ≡ z
-break-read z h = toZ-ofZ (record { sfits = h })
-
 pub break-absent : (absent value : ℤ) → value ≡ pos 0 → absent ≡ orAbsent absent value
 break-absent absent value e = rw e
 

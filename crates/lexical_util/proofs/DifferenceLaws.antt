@@ -105,6 +105,10 @@ module _ (w : Width) (a b : ℕ) (h : a < 2 ^ hbits w) (k : b < 2 ^ hbits w) whe
   pub difference-is : toZ w (ofZ w (toZ w a -ℤ toZ w b)) ≡ minus a b
   difference-is = toZ-ofZ difference-fits ∙ signed-minus
 
+-- ---- a number of 32 bits, as it is read back
+pub read-back : (z : ℤ) → mag z < 2 ^ hbits w32 → toZ w32 (ofZ w32 z) ≡ z
+read-back z h = toZ-ofZ (record { sfits = h })
+
 -- ---- two numbers of 16 bits, taken apart from each other at 32
 pub widened : (z : ℤ) → SFits w16 z → SFits w32 (toZ w16 (ofZ w16 z)) × (toZ w32 (ofZ w32 (toZ w16 (ofZ w16 z))) ≡ z)
 widened z h =

@@ -7,7 +7,7 @@ use lib.IntN.{pos, negsuc}
 use mir.Syntax.{w32}
 use mir.Val.{toZ, ofZ}
 use Rattle.lexical_format.specs.Format.{orAbsent, lowBreak, highBreak, outside, badBreaks}
-use Rattle.lexical_format.proofs.CheckLaws.{break-read}
+use Rattle.lexical_util.proofs.DifferenceLaws.{read-back}
 use Rattle.lexical_format.proofs.checks.check_writing.Statement.{statement}
 use Rattle.lexical_format.proofs.checks.check_writing.Tie as tie
 
@@ -19,12 +19,12 @@ notation c = ⊎-elim (λ w. rw (w .0 .taken, w .1 .left)) (λ w. rw (w .left)) 
 low : (c : tie.After-or-absent) → toZ w32 (ofZ w32 (c .or-absent .result)) ≡ lowBreak (c .before .before .before .before .before .args .options)
 low c =
     let z = c .before .before .before .before .before .args .options .«negative_exponent_break» in
-    break-read _ (c .or-absent .ok) ∙ c .or-absent .ensures ∙ ap (orAbsent (negsuc 4)) (break-read z (c .before .struct-told .given .1 .1 .1 .0 .1))
+    read-back _ (c .or-absent .ok) ∙ c .or-absent .ensures ∙ ap (orAbsent (negsuc 4)) (read-back z (c .before .struct-told .given .1 .1 .1 .0 .1))
 
 high : (c : tie.After-or-absent2) → toZ w32 (ofZ w32 (c .or-absent2 .result)) ≡ highBreak (c .before .before .before .before .before .before .before .args .options)
 high c =
     let z = c .before .before .before .before .before .before .before .args .options .«positive_exponent_break» in
-    break-read _ (c .or-absent2 .ok) ∙ c .or-absent2 .ensures ∙ ap (orAbsent (pos 9)) (break-read z (c .before .struct-told2 .given .1 .1 .0 .1))
+    read-back _ (c .or-absent2 .ok) ∙ c .or-absent2 .ensures ∙ ap (orAbsent (pos 9)) (read-back z (c .before .struct-told2 .given .1 .1 .0 .1))
 
 low-out : (c : tie.After-outside)
     → c .outside .result ≡ outside (negsuc 1999) (negsuc 0) (lowBreak (c .before .before .before .before .before .before .before .before .args .options))

@@ -1,5 +1,5 @@
 -- `lexical_write_float::shared::choose_layout` meets its contract: scientific, else by the sign of s. Assumes nothing.
-use Rattle.lexical_format.proofs.CheckLaws.{break-read}
+use Rattle.lexical_util.proofs.DifferenceLaws.{read-back}
 use Rattle.lexical_text.specs.Text.{layoutOf}
 use mathlib.Core.Path.{refl, sym}
 use Rattle.lexical_write_float.proofs.shared.choose_layout.Statement.{statement}
@@ -15,12 +15,12 @@ returns c = λ o l h. rw (sym (c .before .is-scientific .ensures o l h), c .if1 
 returns-2 : tie.Need-returns-2
 unfolding layoutOf
 returns-2 c = λ o l h.
-    rw (sym (c .before .before .before .is-scientific .ensures o l h), c .before .before .if1 .left, rw (break-read (c .before .before .before .before .args .s .0) (c .before .struct-told .given .0 .1)) at (c .if2 .taken)) refl
+    rw (sym (c .before .before .before .is-scientific .ensures o l h), c .before .before .if1 .left, rw (read-back (c .before .before .before .before .args .s .0) (c .before .struct-told .given .0 .1)) at (c .if2 .taken)) refl
 
 returns-3 : tie.Need-returns-3
 unfolding layoutOf
 returns-3 c = λ o l h.
-    rw (sym (c .before .before .before .is-scientific .ensures o l h), c .before .before .if1 .left, rw (break-read (c .before .before .before .before .args .s .0) (c .before .struct-told .given .0 .1)) at (c .if2 .left)) refl
+    rw (sym (c .before .before .before .is-scientific .ensures o l h), c .before .before .if1 .left, rw (read-back (c .before .before .before .before .args .s .0) (c .before .struct-told .given .0 .1)) at (c .if2 .left)) refl
 
 pub choose-layout-spec : {M : Type 1} → statement M
 choose-layout-spec = tie.close (tie.spec is-scientific-requires returns returns-2 returns-3)

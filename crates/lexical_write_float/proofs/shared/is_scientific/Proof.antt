@@ -1,5 +1,5 @@
 -- `lexical_write_float::shared::is_scientific` meets its contract: by the two flags, then by the breaks. Assumes nothing.
-use Rattle.lexical_format.proofs.CheckLaws.{break-read}
+use Rattle.lexical_util.proofs.DifferenceLaws.{read-back}
 use Rattle.lexical_format.specs.Format.{outside}
 use Rattle.lexical_text.specs.Text.{isScientific}
 use mathlib.Core.Path.{refl, _∙_}
@@ -22,7 +22,7 @@ unfolding isScientific
 returns-3 c = λ o l h.
     let a = c .before .before .before .before .before .before .args in
     rw (c .before .before .before .before .before .if1 .left, c .before .before .before .before .if2 .left)
-    (c .outside .ensures ∙ rw (break-read (a .checked .«negative_exponent_break») (c .before .before .before .struct-told .given .1 .1 .0 .1), break-read (a .checked .«positive_exponent_break») (c .before .before .struct-told2 .given .1 .1 .1 .0 .1), break-read (a .s .0) (c .before .struct-told3 .given .0 .1), l, h) refl)
+    (c .outside .ensures ∙ rw (read-back (a .checked .«negative_exponent_break») (c .before .before .before .struct-told .given .1 .1 .0 .1), read-back (a .checked .«positive_exponent_break») (c .before .before .struct-told2 .given .1 .1 .1 .0 .1), read-back (a .s .0) (c .before .struct-told3 .given .0 .1), l, h) refl)
 
 pub is-scientific-spec : {M : Type 1} → statement M
 is-scientific-spec = tie.close (tie.spec returns returns-2 outside-requires returns-3)

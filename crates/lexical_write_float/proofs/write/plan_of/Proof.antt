@@ -4,7 +4,7 @@ use Rattle.lexical_text.specs.Text.{point, positive}
 use Rattle.lexical_write_float.specs.Code.{IsPlan}
 use mathlib.Core.Path.{_≡_, ap, _∙_, subst}
 use lib.IntN.{natAbs}
-use Rattle.lexical_format.proofs.CheckLaws.{break-read}
+use Rattle.lexical_util.proofs.DifferenceLaws.{read-back}
 use Prim.Native.Nat.{ℕ, _+_}
 use native.Mathlib.Omega.{arith}
 use borrow.Author.Needs.{needs}
@@ -12,7 +12,7 @@ use Rattle.lexical_write_float.proofs.write.plan_of.Statement.{statemen
 use Rattle.lexical_write_float.proofs.write.plan_of.Tie as tie
 
 far : (c : tie.After-unsigned-abs) → c .unsigned-abs .result ≡ natAbs (c .before .before .before .before .args .p .0)
-far c = c .unsigned-abs .ensures ∙ ap natAbs (break-read (c .before .before .before .before .args .p .0) (c .before .struct-told .given .0 .1))
+far c = c .unsigned-abs .ensures ∙ ap natAbs (read-back (c .before .before .before .before .args .p .0) (c .before .struct-told .given .0 .1))
 
 enum-told : tie.Need-enum-told
 enum-told c = search needs
