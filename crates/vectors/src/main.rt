@@ -1,0 +1,50 @@
+// Replays lists of floats and formats through the compiled writer, and counts the lines whose answer it gives again.
+ghost use mathlib.Core.Path.{_≡_};
+ghost use lib.ListN.{length};
+
+mod parse;
+mod print;
+mod replay;
+
+// A list's bytes, and one more, so that a longer list is seen.
+fn space() -> [u8; 524288]
+    ensures { λ r. ⌜ 524288 ≡ length r ⌝ }
+{
+    [0; 524288]
+}
+
+fn replay_file(name: &[u8], fd: i32) {
+    let mut data = space();
+    let n = io::read_full(fd, &mut data);
+    if n == data.len() {
+        print::text(name);
+        print::text(b": too long\n");
+        return;
+    }
+    print::tally(name, replay::list(name, &data[..n]));
+}
+
+fn replay_argument(i: usize) {
+    let mut path = io::buffer();
+    let length = os::arg(i, &mut path);
+    if os::errno() != 0 {
+        os::fail(b"argument");
+        return;
+    }
+    let fd = os::open_read(&path[..length]);
+    if fd < 0 {
+        os::fail(&path[..length]);
+        return;
+    }
+    replay_file(&path[..length], fd);
+    libc::close(fd);
+}
+
+fn main() {
+    let n = os::arg_count();
+    let mut i = 1;
+    while i < n {
+        replay_argument(i);
+        i += 1;
+    }
+}
