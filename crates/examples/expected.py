@@ -1,26 +1,21 @@
 #!/usr/bin/env python3
-"""Prints what the program `examples` must write, from document 01 and IEEE 754, and with no code of this repository:
+"""Prints what the program `examples` must write, from document 01 and IEEE 754, and with no code of this repository but `layout.py` beside it:
 
     python3 crates/examples/expected.py | diff - crates/examples/stdout
 """
 import math
 import struct
+import sys
 from fractions import Fraction
 
-DIGITS = "0123456789ABCDEFGHIJKLMNOPQRSTUV"
+sys.dont_write_bytecode = True
+import layout
+from layout import DIGITS, digits
+
 RADICES = (2, 4, 8, 10, 16, 32)
 
 
 # ---- integer digits
-
-def digits(value, radix):
-    text = ""
-    while True:
-        value, d = divmod(value, radix)
-        text = DIGITS[d] + text
-        if value == 0:
-            return text
-
 
 def digit_lines():
     for value in (0, 1, 31, 32, 1023, 1024, 2**64 - 1):
@@ -146,7 +141,7 @@ def exponent_lines():
 
 class Case:
     radix, base, exponent_radix = 16, 2, 10
-    required = forbidden = False
+    required = forbidden = sign = fraction = trim = truncate = False
     least = most = low = high = 0
     point, mark = ord("."), ord("^")
 
@@ -216,6 +211,95 @@ def format_lines():
         yield case.line(name)
 
 
-for lines in (digit_lines, float_lines, exponent_lines, format_lines):
+# ---- texts
+
+def label(case):
+    """Radix, base and exponent radix, and what is not as usual."""
+    words = [f"{case.radix}/{case.base}/{case.exponent_radix}"]
+    words += [name for name in ("required", "forbidden", "sign", "fraction") if getattr(case, name)]
+    words += [f"{name} {getattr(case, name)}" for name in ("point", "mark") if getattr(case, name) != getattr(Case, name)]
+    words += [name for name in ("trim", "truncate") if getattr(case, name)]
+    words += [f"{name} {getattr(case, name)}" for name in ("least", "most", "low", "high") if getattr(case, name)]
+    return " ".join(words)
+
+
+def text_line(width, bits, case, room=4096):
+    x = float_of(width, bits)
+    number, text = case.writing(), ""
+    if not number and (not math.isfinite(x) or math.copysign(1, x) < 0):
+        number = 7
+    if not number:
+        text = layout.text(Fraction(x), *PAIRS[case.radix, case.base], case)
+        if len(text) > room:
+            number, text = 8, ""
+    answer = f"refused {number} at 0" if number else text if len(text) <= 100 else f"{len(text)} bytes"
+    return f"{width} {bits:x} {label(case)} in {room}: {answer}, {4096 - len(text)} kept"
+
+
+def both(wide, narrow, case, room=4096):
+    yield text_line("f64", wide, case, room)
+    yield text_line("f32", narrow, case, room)
+
+
+def at(radix, base, exponent_radix, **fields):
+    return Case(radix=radix, base=base, exponent_radix=exponent_radix, **fields)
+
+
+def text_lines():
+    wide = {name: bits_of("f64", x) for name, x in (("2^-5", 2**-5), ("2^-6", 2**-6), ("8", 8), ("512", 512), ("1024", 1024), ("1.75", 1.75))}
+    for name, case in (
+        ("2^-5", at(2, 2, 2)), ("2^-6", at(2, 2, 2)), ("512", at(16, 16, 16)),
+        ("1024", at(16, 16, 16)), ("1024", at(16, 16, 16, trim=True)), ("1024", at(16, 16, 16, sign=True)),
+        ("1024", at(16, 2, 10)), ("2^-6", at(16, 2, 10)), ("1024", at(16, 4, 10)),
+    ):
+        yield text_line("f64", wide[name], case)
+    yield text_line("f64", 1, at(32, 32, 10))
+    yield text_line("f64", wide["512"], at(32, 32, 10, trim=True))
+    yield text_line("f64", wide["8"], at(2, 2, 2, trim=True, least=5))
+    yield text_line("f64", wide["8"], at(2, 2, 2, least=5))
+    yield text_line("f32", F32[7], at(16, 2, 10))
+    for flags in ({}, {"required": True}, {"required": True, "fraction": True}):
+        for fields in ({}, {"least": 5}, {"least": 5, "trim": True}, {"trim": True}):
+            yield from both(0, 0, at(2, 2, 2, **flags, **fields))
+    yield from limit_lines(wide)
+    for room in (4096, 2275, 2274):
+        yield text_line("f64", 1, at(2, 2, 2, forbidden=True, least=1200), room)
+    yield from refusal_lines()
+
+
+ONE_AND_A_HALF = F64[5], F32[5]
+
+
+def limit_lines(wide):
+    for truncate in (False, True):
+        yield from both(*ONE_AND_A_HALF, at(16, 16, 16, most=1, truncate=truncate))
+    yield from both(wide["1.75"], bits_of("f32", 1.75), at(2, 2, 2, most=2))
+    yield text_line("f64", F64[7], at(16, 2, 10, most=1))
+    yield text_line("f64", F64[7], at(16, 2, 10, most=1, truncate=True))
+    yield text_line("f32", F32[7], at(16, 2, 10, most=1))
+
+
+def refusal_lines():
+    cases = [at(16, 8, 10), at(16, 2, 3)]
+    for point, mark in (("^", "^"), ("+", "^"), (".", "-"), ("F", "^"), ("G", "^"), (" ", "^"), (".", "\x7f")):
+        cases.append(Case(point=ord(point), mark=ord(mark)))
+    cases.append(Case(required=True, forbidden=True))
+    cases += [Case(least=least, most=most) for least, most in ((1200, 0), (1201, 0), (0, 1201), (5, 4), (5, 5))]
+    cases += [Case(low=low, high=high) for low, high in ((1, 0), (-2000, 0), (-2001, 0), (0, -1), (0, 2000), (0, 2001))]
+    for case in cases:
+        yield from both(*ONE_AND_A_HALF, case)
+    for width in WIDTHS:
+        for x in (-0.0, -1.5, math.inf, -math.inf, math.nan):
+            yield text_line(width, bits_of(width, x), Case())
+    for width in WIDTHS:
+        for room in (3, 2, 0):
+            yield text_line(width, bits_of(width, 0.5), at(16, 16, 16), room)
+    case = Case()
+    for fields in ({}, {"high": -1}, {"least": 1201}, {"required": True, "forbidden": True}, {"mark": ord(".")}, {"exponent_radix": 3}, {"base": 3}):
+        vars(case).update(fields)
+        yield from both(bits_of("f64", -1.5), bits_of("f32", -1.5), case, 0)
+
+
+for lines in (digit_lines, float_lines, exponent_lines, format_lines, text_lines):
     for line in lines():
         print(line)

@@ -8,14 +8,14 @@ use lexical_util::f32_from_parts;
 use lexical_util::f64_from_parts;
 
 // The float with these bits, any NaN where they are a NaN's.
-fn f64_of(bits: u64) -> f64 {
+pub(crate) fn f64_of(bits: u64) -> f64 {
     if bits % 0x8000_0000_0000_0000 > 0x7ff0_0000_0000_0000 {
         return 0.0 / 0.0;
     }
     f64::from_bits(bits)
 }
 
-fn f32_of(bits: u32) -> f32 {
+pub(crate) fn f32_of(bits: u32) -> f32 {
     if bits % 0x8000_0000 > 0x7f80_0000 {
         return 0.0 / 0.0;
     }

@@ -9,7 +9,7 @@ use lexical_format::check;
 use lexical_format::check_reading;
 
 // 16/2/10 without flags.
-fn format() -> NumberFormat {
+pub(crate) fn format() -> NumberFormat {
     NumberFormat {
         mantissa_radix: 16,
         exponent_base: 2,
@@ -22,7 +22,7 @@ fn format() -> NumberFormat {
 }
 
 // Point ".", mark "^", all else absent.
-fn options() -> Options {
+pub(crate) fn options() -> Options {
     Options {
         max_significant_digits: 0,
         min_significant_digits: 0,

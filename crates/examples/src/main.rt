@@ -4,10 +4,12 @@ mod exponents;
 mod floats;
 mod formats;
 mod print;
+mod texts;
 
 fn main() {
     digits::run();
     floats::run();
     exponents::run();
     formats::run();
+    texts::run();
 }

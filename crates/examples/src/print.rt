@@ -33,7 +33,7 @@ pub(crate) fn refusal(r: Refusal) {
     number(r.place as u64);
 }
 
-fn first(out: &[u8], n: usize) {
+pub(crate) fn first(out: &[u8], n: usize) {
     if n <= out.len() {
         text(&out[..n]);
     }
