@@ -1,0 +1,40 @@
+-- `exports::lexical_write_f32` meets its contract: what the call beneath answers and leaves, for the format and options of the struct. Assumes nothing.
+use borrow.Author.Needs.{needs}
+use denote.Ref.{now}
+use Rattle.exports.proofs.ExportLaws.{float-handed-on}
+use Rattle.exports.proofs.lexical_write_f32.Statement.{statement}
+use Rattle.exports.proofs.lexical_write_f32.Tie as tie
+
+options-of-requires : tie.Need-options-of-requires
+options-of-requires c κs = search needs
+
+format-of-requires : tie.Need-format-of-requires
+format-of-requires c κs = search needs
+
+write-f32-requires : tie.Need-write-f32-requires
+write-f32-requires c κs = search needs
+
+answer-of-requires : tie.Need-answer-of-requires
+answer-of-requires c κs = search needs
+
+same-length : tie.Need-same-length
+same-length c = search needs
+
+returns : tie.Need-returns
+returns c =
+    let w = c .before .before .before in
+    let f = w .before .before in
+    let o = f .before in
+    let a = o .before .before .args in
+    float-handed-on (a .format) (a .x) (now (a .buffer)) (f .format-of .ensures) (o .options-of .ensures) (w .write-f32 .ensures .0) (w .write-f32 .ensures .1 .0) (c .answer-of .ensures)
+
+pub lexical-write-f32-spec : {M : Type 1} → statement M
+lexical-write-f32-spec =
+    tie.close
+    (tie.spec
+    options-of-requires
+    format-of-requires
+    write-f32-requires
+    answer-of-requires
+    same-length
+    returns)

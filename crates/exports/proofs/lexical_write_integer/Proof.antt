@@ -1,0 +1,26 @@
+-- `exports::lexical_write_integer` meets its contract: what the call beneath answers and leaves. Assumes nothing.
+use borrow.Author.Needs.{needs}
+use denote.Ref.{now}
+use Rattle.lexical_write_integer.specs.Write.{digitsText}
+use Rattle.exports.proofs.ExportLaws.{handed-on}
+use Rattle.exports.proofs.lexical_write_integer.Statement.{statement}
+use Rattle.exports.proofs.lexical_write_integer.Tie as tie
+
+write-integer-requires : tie.Need-write-integer-requires
+write-integer-requires c κs = search needs
+
+answer-of-requires : tie.Need-answer-of-requires
+answer-of-requires c κs = search needs
+
+same-length : tie.Need-same-length
+same-length c = search needs
+
+returns : tie.Need-returns
+returns c =
+    let w = c .before .before .before in
+    let a = w .before .before .before .args in
+    handed-on (digitsText (a .value) (a .radix)) (now (a .buffer)) (w .write-integer .ensures .0) (w .write-integer .ensures .1) (c .answer-of .ensures)
+
+pub lexical-write-integer-spec : {M : Type 1} → statement M
+lexical-write-integer-spec =
+    tie.close (tie.spec write-integer-requires answer-of-requires same-length returns)

@@ -1,0 +1,19 @@
+-- `exports::options_of` meets its contract: the breaks are handed on as they came. Assumes nothing.
+use Rattle.lexical_util.proofs.DifferenceLaws.{read-back}
+use borrow.Author.Needs.{needs}
+use Rattle.exports.proofs.options_of.Statement.{statement}
+use Rattle.exports.proofs.options_of.Tie as tie
+
+mode-of-requires : tie.Need-mode-of-requires
+mode-of-requires c κs = search needs
+
+returns : tie.Need-returns
+returns c =
+    let f = c .before .before .args .format in
+    let given = c .struct-told .given in
+    let high = read-back (f .«positive_exponent_break») (given .1 .1 .1 .1 .1 .0 .1) in
+    let low = read-back (f .«negative_exponent_break») (given .1 .1 .1 .1 .1 .1 .0 .1) in
+    simp (high, low, c .before .mode-of .ensures)
+
+pub options-of-spec : {M : Type 1} → statement M
+options-of-spec = tie.close (tie.spec mode-of-requires returns)
