@@ -5,8 +5,7 @@ use std::panic::catch_unwind;
 
 use cases::rust::LENT;
 use cases::{rust_write, Case};
-
-use crate::ours::{self, Answer};
+use compare::ours::{self, Answer};
 
 /// What the lent bytes hold before a call: no byte of a text, and not all alike, so that a byte
 /// that is moved shows too.
@@ -21,13 +20,13 @@ const BEFORE: [u8; LENT] = {
 };
 
 /// The number of the refusal of a short buffer.
-const SHORT: u64 = 8;
+const SHORT: u32 = 8;
 
 /// How ours differs from the Rust or from document 01.
 #[derive(Debug, Clone, Copy, PartialEq, Eq)]
 pub enum Difference {
     RustPanics,
-    Refused(u64),
+    Refused(Answer),
     Text,
     BytesPastText,
     ExactBuffer,
@@ -38,7 +37,9 @@ impl fmt::Display for Difference {
     fn fmt(&self, f: &mut fmt::Formatter) -> fmt::Result {
         match self {
             Difference::RustPanics => write!(f, "the Rust panics"),
-            Difference::Refused(number) => write!(f, "ours refuses {number}"),
+            Difference::Refused(Answer { number, place, .. }) => {
+                write!(f, "ours refuses {number} at {place}")
+            }
             Difference::Text => write!(f, "another text"),
             Difference::BytesPastText => write!(f, "ours changed bytes past the text"),
             Difference::ExactBuffer => write!(f, "ours differs in a buffer of the text's length"),
@@ -62,8 +63,13 @@ pub fn rust_or_panic(case: &Case) -> Option<Vec<u8>> {
 pub fn our_answer(case: &Case) -> String {
     let mut lent = BEFORE;
     match ours::write(case, &mut lent) {
-        Answer::Length(n) => format!("{n} {}", String::from_utf8_lossy(&lent[..n])),
-        Answer::Refused(number) => format!("refused {number} at 0"),
+        Answer { number: 0, place: 0, value } => {
+            format!("{value} {}", String::from_utf8_lossy(&lent[..value]))
+        }
+        Answer { number, place, value: 0 } if lent == BEFORE => {
+            format!("refused {number} at {place}")
+        }
+        answer => format!("neither a length nor a refusal that leaves every byte: {answer:?}"),
     }
 }
 
@@ -79,22 +85,26 @@ pub fn check(case: &Case) -> Result<usize, Difference> {
     let length = text.len();
 
     let mut lent = BEFORE;
-    match ours::write(case, &mut lent) {
-        Answer::Refused(number) => return Err(Difference::Refused(number)),
-        Answer::Length(n) if n != length || lent[..n] != *text => return Err(Difference::Text),
-        Answer::Length(_) if !holds(&lent, &text) => return Err(Difference::BytesPastText),
-        Answer::Length(_) => {}
+    let answer = ours::write(case, &mut lent);
+    if answer.number != 0 {
+        return Err(Difference::Refused(answer));
+    }
+    if answer != Answer::length(length) || lent[..length] != *text {
+        return Err(Difference::Text);
+    }
+    if !holds(&lent, &text) {
+        return Err(Difference::BytesPastText);
     }
 
     let mut lent = BEFORE;
     let answer = ours::write(case, &mut lent[..length]);
-    if answer != Answer::Length(length) || !holds(&lent, &text) {
+    if answer != Answer::length(length) || !holds(&lent, &text) {
         return Err(Difference::ExactBuffer);
     }
 
     let mut lent = BEFORE;
     let answer = ours::write(case, &mut lent[..length - 1]);
-    if answer != Answer::Refused(SHORT) || !holds(&lent, &[]) {
+    if answer != Answer::refused(SHORT) || !holds(&lent, &[]) {
         return Err(Difference::ShortBuffer);
     }
     Ok(length)

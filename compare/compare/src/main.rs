@@ -2,7 +2,6 @@
 
 mod check;
 mod limits;
-mod ours;
 
 use std::collections::BTreeMap;
 use std::{env, panic, process::exit};

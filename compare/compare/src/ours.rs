@@ -2,97 +2,90 @@
 
 use cases::Case;
 
-extern "C" {
-    fn lw_f64(
-        float: f64,
-        radix: u32,
-        base: u32,
-        exponent_radix: u32,
-        required: bool,
-        forbidden: bool,
-        sign: bool,
-        no_exponent_without_fraction: bool,
-        point: u8,
-        mark: u8,
-        trim: bool,
-        truncate: bool,
-        least: u32,
-        most: u32,
-        low: i32,
-        high: i32,
-        lent: *mut u8,
-        length: usize,
-    ) -> u64;
-    fn lw_f32(
-        float: f32,
-        radix: u32,
-        base: u32,
-        exponent_radix: u32,
-        required: bool,
-        forbidden: bool,
-        sign: bool,
-        no_exponent_without_fraction: bool,
-        point: u8,
-        mark: u8,
-        trim: bool,
-        truncate: bool,
-        least: u32,
-        most: u32,
-        low: i32,
-        high: i32,
-        lent: *mut u8,
-        length: usize,
-    ) -> u64;
+/// `Format` of the crate `exports`: number format and options.
+#[repr(C)]
+#[derive(Clone, Copy)]
+pub struct Format {
+    mantissa_radix: u32,
+    exponent_base: u32,
+    exponent_radix: u32,
+    max_significant_digits: u32,
+    min_significant_digits: u32,
+    positive_exponent_break: i32,
+    negative_exponent_break: i32,
+    required_exponent_notation: bool,
+    no_exponent_notation: bool,
+    required_exponent_sign: bool,
+    no_exponent_without_fraction: bool,
+    trim_floats: bool,
+    truncate: bool,
+    exponent: u8,
+    decimal_point: u8,
 }
 
-/// What a call answers.
+/// `Answer` of the crate `exports`: the number is 0 where nothing was refused, and value then the
+/// length written.
+#[repr(C)]
 #[derive(Debug, Clone, Copy, PartialEq, Eq)]
-pub enum Answer {
-    Length(usize),
-    Refused(u64),
+pub struct Answer {
+    pub number: u32,
+    pub place: usize,
+    pub value: usize,
 }
 
-/// A refusal comes as its number above this.
-const REFUSAL: u64 = 100_000;
+impl Answer {
+    pub fn length(value: usize) -> Answer {
+        Answer { number: 0, place: 0, value }
+    }
 
-macro_rules! call {
-    ($function:ident, $float:expr, $c:ident, $lent:ident) => {
-        // SAFETY: pointer and length are those of one slice, which the call keeps within.
-        unsafe {
-            $function(
-                $float,
-                $c.radix,
-                $c.base,
-                $c.exponent_radix,
-                $c.required_exponent_notation,
-                $c.no_exponent_notation,
-                $c.required_exponent_sign,
-                $c.no_exponent_without_fraction,
-                $c.point,
-                $c.mark,
-                $c.trim,
-                $c.truncate,
-                $c.least,
-                $c.most,
-                $c.low,
-                $c.high,
-                $lent.as_mut_ptr(),
-                $lent.len(),
-            )
-        }
-    };
+    /// A refusal at place 0, the only place where a writing call refuses.
+    pub fn refused(number: u32) -> Answer {
+        Answer { number, place: 0, value: 0 }
+    }
+}
+
+extern "C" {
+    fn lexical_write_f64(x: f64, format: Format, lent: *mut u8, length: usize) -> Answer;
+    fn lexical_write_f32(x: f32, format: Format, lent: *mut u8, length: usize) -> Answer;
+}
+
+/// Our format of a case.
+pub fn format_of(case: &Case) -> Format {
+    Format {
+        mantissa_radix: case.radix,
+        exponent_base: case.base,
+        exponent_radix: case.exponent_radix,
+        max_significant_digits: case.most,
+        min_significant_digits: case.least,
+        positive_exponent_break: case.high,
+        negative_exponent_break: case.low,
+        required_exponent_notation: case.required_exponent_notation,
+        no_exponent_notation: case.no_exponent_notation,
+        required_exponent_sign: case.required_exponent_sign,
+        no_exponent_without_fraction: case.no_exponent_without_fraction,
+        trim_floats: case.trim,
+        truncate: case.truncate,
+        exponent: case.mark,
+        decimal_point: case.point,
+    }
+}
+
+pub fn write_f64(x: f64, format: Format, lent: &mut [u8]) -> Answer {
+    // SAFETY: pointer and length are those of one slice, which the call keeps within.
+    unsafe { lexical_write_f64(x, format, lent.as_mut_ptr(), lent.len()) }
+}
+
+pub fn write_f32(x: f32, format: Format, lent: &mut [u8]) -> Answer {
+    // SAFETY: as above.
+    unsafe { lexical_write_f32(x, format, lent.as_mut_ptr(), lent.len()) }
 }
 
 /// Lets ours write into `lent`.
 pub fn write(case: &Case, lent: &mut [u8]) -> Answer {
-    let answer = match case.width {
-        32 => call!(lw_f32, f32::from_bits(case.bits as u32), case, lent),
-        64 => call!(lw_f64, f64::from_bits(case.bits), case, lent),
+    let format = format_of(case);
+    match case.width {
+        32 => write_f32(f32::from_bits(case.bits as u32), format, lent),
+        64 => write_f64(f64::from_bits(case.bits), format, lent),
         _ => panic!("a width of 32 or 64"),
-    };
-    if answer < REFUSAL {
-        Answer::Length(answer as usize)
-    } else {
-        Answer::Refused(answer - REFUSAL)
     }
 }

@@ -1,0 +1,3 @@
+//! Our compiled writer, for the comparison and the benchmark.
+
+pub mod ours;
