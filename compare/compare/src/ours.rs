@@ -6,13 +6,13 @@ use cases::Case;
 #[repr(C)]
 #[derive(Clone, Copy)]
 pub struct Format {
-    mantissa_radix: u32,
-    exponent_base: u32,
-    exponent_radix: u32,
     max_significant_digits: u32,
     min_significant_digits: u32,
     positive_exponent_break: i32,
     negative_exponent_break: i32,
+    mantissa_radix: u32,
+    exponent_base: u32,
+    exponent_radix: u32,
     required_exponent_notation: bool,
     no_exponent_notation: bool,
     required_exponent_sign: bool,

@@ -12,13 +12,13 @@ use lexical_util::Written;
 // A number format and options in one struct. No enum crosses, so the round mode is a flag.
 #[repr(C)]
 pub struct Format {
-    pub mantissa_radix: u32,
-    pub exponent_base: u32,
-    pub exponent_radix: u32,
     pub max_significant_digits: u32,
     pub min_significant_digits: u32,
     pub positive_exponent_break: i32,
     pub negative_exponent_break: i32,
+    pub mantissa_radix: u32,
+    pub exponent_base: u32,
+    pub exponent_radix: u32,
     pub required_exponent_notation: bool,
     pub no_exponent_notation: bool,
     pub required_exponent_sign: bool,

@@ -23,6 +23,10 @@ from f (suc n) i (suc k) h = from f n (suc i) k (le-of-suc-le-suc h) ∙ ap f (s
 pub tab-at : (f : ℕ → ℕ) (n k : ℕ) → k < n → getD (tab f 0 n) k 0 ≡ f k
 tab-at f n k h = from f n 0 k h ∙ ap f (zero-add k)
 
+-- the 32 digits follow theirs
+pub record Chars (table : List ℕ) : Type 0 where
+  pub at : (k : ℕ) → k < 32 → getD table k 0 ≡ digitByte k
+
 -- the 1,024 pairs follow the rule
 pub record Pairs (table : List ℕ) : Type 0 where
   pub at : (k : ℕ) → k < 2048 → getD table k 0 ≡ pairByte k

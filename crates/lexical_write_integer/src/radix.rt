@@ -5,7 +5,8 @@ ghost use Prim.Native.Nat.{_%_, _^_, _≤_};
 ghost use lib.ListN.{length, drop};
 ghost use Rattle.lexical_write_integer.specs.Code.{lastNumeral};
 use crate::table::DIGIT_TO_BASE32_SQUARED;
-use crate::table::digit_to_char;
+use crate::table::DIGIT_TO_CHAR;
+use crate::table::lent_char;
 use crate::table::table_byte;
 
 // The last count digits of value in radix 2^b, leading zeros included, at the front of the buffer, from the back.
@@ -13,12 +14,13 @@ pub(crate) fn radix(value: u64, b: u32, count: usize, buffer: &mut [u8])
     requires { ⌜ (b ≤ 5) × (count ≤ length (now buffer)) ⌝ }
     ensures { λ _. ⌜ now (buffer .exit) ≡ lastNumeral (2 ^ b) count value ++ drop count (now (buffer .entry)) ⌝ }
 {
+    let table = &DIGIT_TO_CHAR;
     let mask = (1u64 << b) - 1;
     let mut i = count;
     let mut v = value;
     while 0 < i {
         i -= 1;
-        buffer[i] = digit_to_char((v & mask) as u8);
+        buffer[i] = lent_char(table, (v & mask) as usize);
         v = v >> b;
     }
 }

@@ -11,8 +11,8 @@ returns : tie.Need-returns
 returns c =
     let f = c .before .before .args .format in
     let given = c .struct-told .given in
-    let high = read-back (f .«positive_exponent_break») (given .1 .1 .1 .1 .1 .0 .1) in
-    let low = read-back (f .«negative_exponent_break») (given .1 .1 .1 .1 .1 .1 .0 .1) in
+    let high = read-back (f .«positive_exponent_break») (given .1 .1 .0 .1) in
+    let low = read-back (f .«negative_exponent_break») (given .1 .1 .1 .0 .1) in
     simp (high, low, c .before .mode-of .ensures)
 
 pub options-of-spec : {M : Type 1} → statement M
