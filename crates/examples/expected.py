@@ -246,7 +246,7 @@ def at(radix, base, exponent_radix, **fields):
 
 
 def text_lines():
-    wide = {name: bits_of("f64", x) for name, x in (("2^-5", 2**-5), ("2^-6", 2**-6), ("8", 8), ("512", 512), ("1024", 1024), ("1.75", 1.75))}
+    wide = {name: bits_of("f64", x) for name, x in (("2^-5", 2**-5), ("2^-6", 2**-6), ("8", 8), ("512", 512), ("1024", 1024))}
     for name, case in (
         ("2^-5", at(2, 2, 2)), ("2^-6", at(2, 2, 2)), ("512", at(16, 16, 16)),
         ("1024", at(16, 16, 16)), ("1024", at(16, 16, 16, trim=True)), ("1024", at(16, 16, 16, sign=True)),
@@ -261,7 +261,7 @@ def text_lines():
     for flags in ({}, {"required": True}, {"required": True, "fraction": True}):
         for fields in ({}, {"least": 5}, {"least": 5, "trim": True}, {"trim": True}):
             yield from both(0, 0, at(2, 2, 2, **flags, **fields))
-    yield from limit_lines(wide)
+    yield from limit_lines()
     for room in (4096, 2275, 2274):
         yield text_line("f64", 1, at(2, 2, 2, forbidden=True, least=1200), room)
     yield from refusal_lines()
@@ -270,10 +270,11 @@ def text_lines():
 ONE_AND_A_HALF = F64[5], F32[5]
 
 
-def limit_lines(wide):
+def limit_lines():
     for truncate in (False, True):
         yield from both(*ONE_AND_A_HALF, at(16, 16, 16, most=1, truncate=truncate))
-    yield from both(wide["1.75"], bits_of("f32", 1.75), at(2, 2, 2, most=2))
+    for x in (1.75, 1.25):
+        yield from both(bits_of("f64", x), bits_of("f32", x), at(2, 2, 2, most=2))
     yield text_line("f64", F64[7], at(16, 2, 10, most=1))
     yield text_line("f64", F64[7], at(16, 2, 10, most=1, truncate=True))
     yield text_line("f32", F32[7], at(16, 2, 10, most=1))

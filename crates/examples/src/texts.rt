@@ -242,27 +242,23 @@ fn zero() {
     each_zero(f);
 }
 
+// 1.5; 1.75 and 1.25, whose ties go up and down, to the even one; the largest floats, which become 2^1024 and 2^128.
 fn limits() {
     let hex = format(16, 16, 16);
-    both(hex, limited(1, RoundMode::Round));
-    both(hex, limited(1, RoundMode::Truncate));
-    wide(
-        0x3ffc_0000_0000_0000,
-        format(2, 2, 2),
-        limited(2, RoundMode::Round),
-    );
-    narrow(0x3fe0_0000, format(2, 2, 2), limited(2, RoundMode::Round));
-    wide(
-        0x7fef_ffff_ffff_ffff,
-        format(16, 2, 10),
-        limited(1, RoundMode::Round),
-    );
-    wide(
-        0x7fef_ffff_ffff_ffff,
-        format(16, 2, 10),
-        limited(1, RoundMode::Truncate),
-    );
-    narrow(0x7f7f_ffff, format(16, 2, 10), limited(1, RoundMode::Round));
+    let binary = format(2, 2, 2);
+    let mixed = format(16, 2, 10);
+    let one = limited(1, RoundMode::Round);
+    let two = limited(2, RoundMode::Round);
+    let cut = limited(1, RoundMode::Truncate);
+    both(hex, one);
+    both(hex, cut);
+    wide(0x3ffc_0000_0000_0000, binary, two);
+    narrow(0x3fe0_0000, binary, two);
+    wide(0x3ff4_0000_0000_0000, binary, two);
+    narrow(0x3fa0_0000, binary, two);
+    wide(0x7fef_ffff_ffff_ffff, mixed, one);
+    wide(0x7fef_ffff_ffff_ffff, mixed, cut);
+    narrow(0x7f7f_ffff, mixed, one);
 }
 
 // 2^-1074 in radix 2 without an exponent and with 1,200 digits, which no other text passes, and bytes too few for it.
