@@ -1,4 +1,4 @@
-// The three layouts that the Rust's macro `write_float!` chooses between.
+// Derived from the macro `write_float!` of lexical-write-float/src/shared.rs, changed: the three layouts that it chooses between are one type.
 pub enum Layout {
     Scientific,
     Negative,
