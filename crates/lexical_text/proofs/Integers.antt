@@ -8,9 +8,6 @@ use native.Mathlib.Omega.{arith}
 use borrow.Author.Tests.{lt-ltb, le-ltb, ltb-true}
 use lib.IntN.{ℤ, pos, negsuc, negℤ, natAbs, predℤ, _+ℤ_, _-ℤ_, _*ℤ_, +ℤ-assoc, +ℤ-comm, +ℤ-idr, +ℤ-negℤ-cancel, -ℤ-+ℤ-cancel, *ℤ-comm, predℤ-*ℤ, -ℤ-one}
 use lib.Signed.{shrZ, ltZ}
-use mir.Syntax.{w16}
-use mir.Val.{SFits, toZ, ofZ}
-use mir.Facts.{toZ-ofZ, toZ-pos}
 use Rattle.lexical_text.specs.Value.{modulo}
 use Rattle.lexical_text.specs.Range.{Between}
 
@@ -117,31 +114,3 @@ between-more least most t (negsuc n) h = between-add least (most + t) t (negsuc 
 pub between-wider : (least most least′ most′ : ℕ) (e : ℤ) → least ≤ least′ → most ≤ most′ → Between least most e → Between least′ most′ e
 between-wider least most least′ most′ (pos n) p q h = omega arith
 between-wider least most least′ most′ (negsuc n) p q h = omega arith
-
--- ---- an exponent of 16 bits, up to 64 higher
-near-fits : (z : ℤ) → Between 8000 8064 z → SFits w16 z
-near-fits (pos n) h = record { sfits = omega arith }
-near-fits (negsuc n) h = record { sfits = omega arith }
-
--- as the code hands it on
-pub stored-is : (e : ℤ) → Between 8000 8000 e → toZ w16 (ofZ w16 e) ≡ e
-stored-is e h = toZ-ofZ (near-fits e (between-wider 8000 8000 8000 8064 e (omega arith) (omega arith) h))
-
-module _ (e : ℤ) (n : ℕ) (h : Between 8000 8000 e) (l : n ≤ 64) where
-  higher-fits : SFits w16 (e +ℤ pos n)
-  higher-fits = near-fits (e +ℤ pos n) (between-wider 8000 (8000 + n) 8000 8064 (e +ℤ pos n) (omega arith) (omega arith) (between-more 8000 8000 n e h))
-
-  sum-is : toZ w16 (ofZ w16 e) +ℤ toZ w16 n ≡ e +ℤ pos n
-  sum-is = rw (stored-is e h, toZ-pos w16 {n = n} (omega arith))
-
-  pub sum-fits : SFits w16 (toZ w16 (ofZ w16 e) +ℤ toZ w16 n)
-  sum-fits = rw sum-is higher-fits
-
-  pub sum-stored : toZ w16 (ofZ w16 (toZ w16 (ofZ w16 e) +ℤ toZ w16 n)) ≡ e +ℤ pos n
-  sum-stored = rw sum-is (toZ-ofZ higher-fits)
-
-  pub raised-stored : (r : ℤ) → r ≡ toZ w16 (ofZ w16 e) +ℤ pos n → toZ w16 (ofZ w16 r) ≡ e +ℤ pos n
-  raised-stored r k = rw (k, stored-is e h) (toZ-ofZ higher-fits)
-
-pub raised-near : (e : ℤ) (n : ℕ) → Between 4000 4000 e → n ≤ 64 → Between 8000 8000 (e +ℤ pos n)
-raised-near e n h l = between-wider 4000 (4000 + n) 8000 8000 (e +ℤ pos n) (omega arith) (omega arith) (between-more 4000 4000 n e h)

@@ -10,7 +10,7 @@ use lib.IntN.{ℤ, pos, negsuc, natAbs}
 use lib.Signed.{ltZ}
 use lib.ListN.{length, take, drop, length-append, length-replicate, length-take, length-drop}
 use Rattle.lexical_util.specs.Digit.{isRadix}
-use Rattle.lexical_util.specs.Num.{scale, place}
+use Rattle.lexical_util.specs.Num.{scale, place, power}
 use Rattle.lexical_util.proofs.RadixLaws.{radix-bounds}
 use Rattle.lexical_write_integer.specs.Digits.{numeral}
 use Rattle.lexical_write_integer.proofs.DigitsLaws.{count-le, length-numeral}
@@ -30,6 +30,12 @@ pub few-digits : (radix n : ℕ) → isRadix radix ≡ true → n < 8192 → len
 few-digits radix n R h =
     let q = radix-bounds radix R in
     omega (arith, length-numeral radix n, count-le radix (q .0) 12 n (lt-of-lt-of-le h (pow-le-pow-left (q .0) 13)))
+
+-- p * b / c is below 2 ^ 13
+pub power-few : (b c : ℕ) (p : ℤ) → b ≤ 5 → natAbs p ≤ 1074 → power b c p < 8192
+power-few b c p K h =
+    let x : natAbs p * b ≤ 1074 * 5 = mul-le-mul h K in
+    omega (arith, div-le-self (natAbs p * b) c)
 
 module _ (F : NumberFormat) (o : Options) (row : Pair) (W : Writable F o row) where
   -- ---- each layout, for a D of at most 64 digits
@@ -75,9 +81,7 @@ module _ (F : NumberFormat) (o : Options) (row : Pair) (W : Writable F o row) wh
   unfolding exponentText
   exponent-length p h =
       let R = W .reads in
-      let x : natAbs p * row .b ≤ 1074 * 5 = mul-le-mul h (R .pair .few-bits) in
-      let d : natAbs p * row .b / row .c < 8192 = omega (arith, div-le-self (natAbs p * row .b) (row .c)) in
-      simp length-append (omega (arith, sign-length p, few-digits (F .«exponent_radix») (natAbs p * row .b / row .c) (R .power) d))
+      simp length-append (omega (arith, sign-length p, few-digits (F .«exponent_radix») (power (row .b) (row .c) p) (R .power) (power-few (row .b) (row .c) p (R .pair .few-bits) h)))
 
   -- ---- the whole text
   laid-length : (D : List ℕ) (soFar : ℕ) (s : ℤ) → length D ≤ 64 → Between 1074 1024 s → length (laidOut F o row D (place (row .b) s) soFar (layoutOf F o s)) ≤ 2275

@@ -1,13 +1,11 @@
--- The digit limit by the cases of the code: a mantissa rounded to units of a power of two, and which bits lie below the unit. Assumes nothing.
+-- The digit limit by its cases: a mantissa rounded to units of a power of two, and which bits lie below the unit. Assumes nothing.
 use Prim.Native.Nat.{ℕ, zero, suc, _+_, _-_, _*_, _/_, _%_, _^_, _≤_, _<_, compare, Ordering, Ordering·lt, Ordering·eq, Ordering·gt}
 use mathlib.Core.Path.{_≡_, refl, sym, ap, subst, _∙_}
 use mathlib.Core.Bool.{not}
-use native.Mathlib.Nat.{mul-one, div-one, mod-one, mod-lt}
+use native.Mathlib.Nat.{mul-one, div-one, mod-one}
 use native.Mathlib.Numerals.{add-one}
 use native.Mathlib.Omega.{arith}
 use lib.Dec.{T, isLe, isEq, eqb, leb→le, nleb→lt, eqb→eq, eqb-refl}
-use lib.Bits.{bitAnd, and-mask}
-use lib.Pow.{pow-lt, pow-pos}
 use lib.IntN.{ℤ, pos, negsuc, _+ℤ_, _-ℤ_, +ℤ-assoc, +ℤ-negℤ-cancel}
 use lib.Ieee.{size, nearest}
 use lib.Ieee.Fits.{nearest-le}
@@ -53,17 +51,6 @@ module _ (mode : RoundMode) (m c : ℕ) where
 
   pub rounds-up : mode ≡ Round → c < m % c * 2 → m / c + 1 ≡ rounded mode m c
   rounds-up e h = rw e (add-one (m / c) ∙ sym (nearest-by (m / c) (m % c * 2) c .2 h))
-
--- 1 << cut, and the bits below it
-module _ (m cut : ℕ) (h : cut < 60) where
-  abbrev coded-unit : ℕ
-  coded-unit = 1 * 2 ^ cut % 18446744073709551616
-
-  pub unit-is : (coded-unit ≡ 2 ^ cut) × (0 < 2 ^ cut) × (2 ^ cut < 1152921504606846976)
-  unit-is = let l : 2 ^ cut < 1152921504606846976 = pow-lt {i = cut} {j = 60} h in (omega arith, pow-pos cut, l)
-
-  pub rest-is : (bitAnd m (coded-unit - 1) ≡ m % 2 ^ cut) × (m % 2 ^ cut < 2 ^ cut)
-  rest-is = (ap (λ (u : ℕ). bitAnd m (u - 1)) (unit-is .0) ∙ and-mask m cut, mod-lt m (pow-pos cut))
 
 -- ---- the unit lies at or below the leading bit: s is the unit's exponent and some natural number
 unit-below : (b k : ℕ) (s : ℤ) → 0 < b → unitExponent b (suc k) (place b s) +ℤ pos (b * k + modulo s b) ≡ s

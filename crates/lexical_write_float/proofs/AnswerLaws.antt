@@ -29,7 +29,7 @@ use Rattle.lexical_text.specs.Value.{Value, exactDigits}
 use Rattle.lexical_text.specs.Text.{layoutOf, digitsSoFar, laidOut, text, exponentText}
 use Rattle.lexical_text.specs.Write.{limitedText, floatText, writeText, NoLonger, NeverRefused}
 use Rattle.lexical_text.specs.Range.{Between}
-use Rattle.lexical_write_float.specs.Code.{Passed, rowOf, FloatsParts, partsText}
+use Rattle.lexical_write_float.specs.Code.{Passed, rowOf, OfFloat, partsText}
 use Rattle.lexical_write_float.proofs.FloatLaws.{float-normal}
 use Rattle.lexical_text.proofs.WriteLaws.{longest-text}
 
@@ -71,7 +71,7 @@ exponent-near f x = go (eqb (biased f x) 0)
     go true = let w = field-few f in near-minus 0 (low f) (omega arith) (omega (arith, w .1))
     go false = let w = field-few f in near-minus (biased f x) (suc (low f)) (omega (arith, w .0, mod-lt (toBits f x / hid f) (zero-lt-suc (ones f)))) (w .1)
 
-own-parts : (f : Format) (x : Float) → T (fits f x) → IsValue x (partsOf f x) → FloatsParts (partsOf f x)
+own-parts : (f : Format) (x : Float) → T (fits f x) → IsValue x (partsOf f x) → OfFloat (partsOf f x)
 unfolding partsOf
 own-parts f nan t v = tt
 own-parts f (inf s) t v = tt
@@ -80,8 +80,8 @@ own-parts f (fin false m e) t v =
     let x : Float = fin false m e in
     record { width = f; m = m; e = e; fits-width = t; is = float-normal f m (mantissa f x) e (exponent f x) t v; near = exponent-near f x }
 
-pub floats-parts : (f : Format) (x : Float) (r : Parts) → T (fits f x) → r ≡ partsOf f x → IsValue x r → FloatsParts r
-floats-parts f x r t e v = subst FloatsParts (sym e) (own-parts f x t (subst (IsValue x) e v))
+pub of-float : (f : Format) (x : Float) (r : Parts) → T (fits f x) → r ≡ partsOf f x → IsValue x r → OfFloat r
+of-float f x r t e v = subst OfFloat (sym e) (own-parts f x t (subst (IsValue x) e v))
 
 -- ---- what is asked for, by the parts and by the float
 own-text : (f : Format) (F : NumberFormat) (o : Options) (x : Float) (row : Pair) → T (fits f x) → IsValue x (partsOf f x) → partsText F o (settled o row) (partsOf f x) ≡ floatText F o x row

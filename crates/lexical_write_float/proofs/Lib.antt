@@ -1,3 +1,4 @@
+pub mod StoredLaws
 pub mod FloatLaws
 pub mod PowerLaws
 pub mod PutLaws

@@ -1,17 +1,16 @@
 -- A text by its pieces: what the code knows of a checked format, of D and of a layout. Assumes nothing.
-use Prim.Native.Nat.{ℕ, zero, suc, _+_, _*_, _/_, _%_, _^_, _≤_, _<_}
-use mathlib.Core.Path.{_≡_, refl, sym, _∙_}
+use Prim.Native.Nat.{ℕ, zero, suc, _+_, _*_, _%_, _^_, _≤_, _<_}
+use mathlib.Core.Path.{_≡_, refl, sym}
 use mathlib.Core.Bool.{true}
 use mathlib.Core.List.{List, _++_}
-use native.Mathlib.Nat.{mul-le-mul, div-le-self, mod-eq-of-lt, lt-of-lt-of-le}
+use native.Mathlib.Nat.{mod-eq-of-lt, lt-of-lt-of-le}
 use native.Mathlib.Omega.{arith}
-use lib.IntN.{ℤ, natAbs}
+use lib.IntN.{ℤ}
 use lib.Pow.{pow-mono, shl-lt}
 use Rattle.lexical_util.specs.Digit.{isRadix}
 use Rattle.lexical_util.specs.Num.{scale, place, power}
 use Rattle.lexical_write_integer.proofs.DigitsLaws.{length-numeral, count-pos, radix-above}
 use Rattle.lexical_format.specs.declared.checks.CheckedFormat.{CheckedFormat}
-use Rattle.lexical_format.specs.declared.format.Pair.{Pair}
 use Rattle.lexical_format.specs.declared.format.NumberFormat.{NumberFormat}
 use Rattle.lexical_format.specs.declared.options.Options.{Options}
 use Rattle.lexical_format.specs.Format.{lowBreak, highBreak, settled}
@@ -20,7 +19,7 @@ use Rattle.lexical_text.specs.declared.layout.Layout.{Layout}
 use Rattle.lexical_text.specs.declared.layout.Layout.the-variants.{Scientific, Negative, Positive}
 use Rattle.lexical_write_float.specs.declared.plan.Digits.{Digits}
 use Rattle.lexical_text.specs.Value.{exactDigits}
-use Rattle.lexical_text.specs.Text.{least, scientific, exponentText, negative, positive, layoutOf, digitsSoFar, text}
+use Rattle.lexical_text.specs.Text.{least, exponentText, layoutOf, digitsSoFar, text}
 use Rattle.lexical_write_float.specs.Code.{Passed, rowOf, Counted, bodyText}
 
 -- ---- a format that passed the check
@@ -71,33 +70,7 @@ counted-some D C =
     let b = D .«bits_per_digit» in
     omega (arith, C .count-is, length-numeral (2 ^ b) (D .value), count-pos (2 ^ b) (radix-above b (C .some-bits)) (D .value))
 
--- p * b / c is below 2 ^ 13
-pub power-few : (b c : ℕ) (p : ℤ) → b ≤ 5 → natAbs p ≤ 1074 → power b c p < 8192
-power-few b c p K h =
-    let x : natAbs p * b ≤ 1074 * 5 = mul-le-mul h K in
-    omega (arith, div-le-self (natAbs p * b) c)
-
--- ---- the text by its layout
-module _ (F : NumberFormat) (o : Options) (row : Pair) (m : ℕ) (e : ℤ) where
-  abbrev D : List ℕ
-  D = exactDigits (row .b) m e
-
-  abbrev p : ℤ
-  p = place (row .b) (scale m e)
-
-  pub text-scientific : layoutOf F o (scale m e) ≡ Scientific → text F o row m e ≡ scientific F o D ++ exponentText F o row p
-  unfolding text
-  text-scientific l = rw l refl
-
-  pub text-negative : layoutOf F o (scale m e) ≡ Negative → text F o row m e ≡ negative F o D p
-  unfolding text
-  text-negative l = rw l refl
-
-  pub text-positive : layoutOf F o (scale m e) ≡ Positive → text F o row m e ≡ positive F o D (natAbs p + 1) (digitsSoFar F o m D)
-  unfolding text
-  text-positive l = rw l refl
-
--- ---- the same by what the code has of it: D, p, the digits so far and the layout
+-- ---- the text by what the code has of it: D, p, the digits so far and the layout
 module _ (F : NumberFormat) (o : Options) (c : CheckedFormat) (m : ℕ) (e : ℤ) (D : List ℕ) (p : ℤ) (soFar : ℕ) (l : Layout) where
   pub record IsLaid : Type 0 where
     pub digits-are : D ≡ exactDigits (c .b) m e
@@ -106,11 +79,13 @@ module _ (F : NumberFormat) (o : Options) (c : CheckedFormat) (m : ℕ) (e : ℤ
     pub layout-is : l ≡ layoutOf F o (scale m e)
 
   pub laid-scientific : IsLaid → l ≡ Scientific → bodyText F o p soFar l D ++ exponentText F o (rowOf c) p ≡ text F o (rowOf c) m e
-  laid-scientific h q =
-      rw (q, h .digits-are, h .place-is) (sym (text-scientific F o (rowOf c) m e (sym (h .layout-is) ∙ q)))
+  unfolding text
+  laid-scientific h q = rw (sym (h .layout-is), q, h .digits-are, h .place-is) refl
 
   pub laid-negative : IsLaid → l ≡ Negative → bodyText F o p soFar l D ≡ text F o (rowOf c) m e
-  laid-negative h q = rw (q, h .digits-are, h .place-is) (sym (text-negative F o (rowOf c) m e (sym (h .layout-is) ∙ q)))
+  unfolding text
+  laid-negative h q = rw (sym (h .layout-is), q, h .digits-are, h .place-is) refl
 
   pub laid-positive : IsLaid → l ≡ Positive → bodyText F o p soFar l D ≡ text F o (rowOf c) m e
-  laid-positive h q = rw (q, h .so-far-is, h .digits-are, h .place-is) (sym (text-positive F o (rowOf c) m e (sym (h .layout-is) ∙ q)))
+  unfolding text
+  laid-positive h q = rw (sym (h .layout-is), q, h .so-far-is, h .digits-are, h .place-is) refl

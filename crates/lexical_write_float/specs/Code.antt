@@ -113,7 +113,8 @@ partsText F o checked (parts.Plain v) = done (magnitudeText F o checked v)
 partsText F o checked (parts.Negative v) = refused 7 0
 partsText F o checked parts.Special = refused 7 0
 
-abbrev pub FloatsParts : Parts → Type 0
-FloatsParts (parts.Plain v) = FloatParts v
-FloatsParts (parts.Negative v) = Unit {0}
-FloatsParts parts.Special = Unit {0}
+-- parts of a float: what they say of one that is written
+abbrev pub OfFloat : Parts → Type 0
+OfFloat (parts.Plain v) = FloatParts v
+OfFloat (parts.Negative v) = Unit {0}
+OfFloat parts.Special = Unit {0}

@@ -8,7 +8,7 @@ ghost use Rattle.lexical_write_float.specs.Code.{ofMagnitude, IsPlan};
 ghost use mathlib.Core.List.{List};
 ghost use lib.IntN.{pos, natAbs, _+ℤ_};
 ghost use Rattle.lexical_format.specs.declared.format.NumberFormat.{NumberFormat};
-ghost use Rattle.lexical_text.specs.Text.{point, least, negative, positive};
+ghost use Rattle.lexical_text.specs.Text.{point, negative, positive};
 use crate::plan::Plan;
 use crate::shared::missing_digits;
 use lexical_format::Options;
@@ -78,7 +78,7 @@ pub(crate) fn normalized(value: Magnitude) -> Magnitude
     }
 }
 
-// The mantissa as a number of units of 2^cut, a tie to the even one.
+// The mantissa as a number of units of 2^cut: the nearest, a tie to the even one, or the greatest not above it.
 fn round_to_units(mantissa: u64, cut: u32, mode: RoundMode) -> u64
     requires { ⌜ (mantissa < 2 ^ 60) × (cut < 60) ⌝ }
     ensures { λ r. ⌜ r ≡ rounded mode mantissa (2 ^ cut) ⌝ }

@@ -1,4 +1,4 @@
-// Writing a float, in place of the Rust's two `write_float`, of binary.rs for equal pairs and of hex.rs for mixed ones: one body over the parts for both widths and all ten pairs.
+// Derived from `write_float` of lexical-write-float/src/binary.rs, for equal pairs, and hex.rs, for mixed ones, changed: one body over a float's parts for both widths and all ten pairs, and refusals for assertions.
 ghost use mathlib.Core.Path.{_≡_};
 ghost use mathlib.Core.List.{List};
 ghost use Prim.Native.Nat.{ℕ, _^_, _≤_, _<_};
@@ -10,7 +10,7 @@ ghost use Rattle.lexical_format.specs.declared.options.Options.{Options};
 ghost use Rattle.lexical_text.specs.Value.{exactDigits};
 ghost use Rattle.lexical_text.specs.Text.{point, least, digitsSoFar, text};
 ghost use Rattle.lexical_text.specs.Range.{Ranged};
-ghost use Rattle.lexical_write_float.specs.Code.{FloatParts, Passed, rowOf, Counted, digitsOf, IsPlan, bodyText, magnitudeText, partsText, FloatsParts};
+ghost use Rattle.lexical_write_float.specs.Code.{FloatParts, Passed, rowOf, Counted, digitsOf, IsPlan, bodyText, magnitudeText, partsText, OfFloat};
 ghost use Rattle.lexical_text.specs.Write.{writeText, NoLonger, NeverRefused};
 use crate::binary::calculate_shl;
 use crate::binary::normalized;
@@ -137,7 +137,7 @@ fn write_parts(
     checked: CheckedFormat,
     buffer: &mut [u8],
 ) -> Written
-    requires { ⌜ Passed format options checked × FloatsParts parts ⌝ }
+    requires { ⌜ Passed format options checked × OfFloat parts ⌝ }
     ensures { λ r. ⌜ ofWritten r ≡ written (partsText format options checked parts) (now (buffer .entry)) ⌝ }
     ensures { λ _. ⌜ now (buffer .exit) ≡ held (partsText format options checked parts) (now (buffer .entry)) ⌝ }
 {

@@ -32,8 +32,8 @@ back-end r v W out i z w = sym (w ∙ rw z)
 
 -- ---- radix 2 ^ b
 -- the code's shift is the radix
-pub shifted : (b : ℕ) → b ≤ 5 → (1 * 2 ^ b) % 2 ^ 64 ≡ 2 ^ b
-shifted b h = rw one-mul (mod-eq-of-lt {n = 2 ^ b} {m = 2 ^ 64} (pow-lt {i = b} {j = 64} (omega arith)))
+pub shifted : (b : ℕ) → b < 64 → (1 * 2 ^ b) % 2 ^ 64 ≡ 2 ^ b
+shifted b h = rw one-mul (mod-eq-of-lt {n = 2 ^ b} {m = 2 ^ 64} (pow-lt {i = b} {j = 64} h))
 
 -- what the mask keeps is the remainder
 pub masked : (b v m : ℕ) → m + 1 ≡ 2 ^ b → bitAnd v m ≡ v % 2 ^ b

@@ -6,7 +6,7 @@ use native.Mathlib.Omega.{arith}
 use borrow.Author.Needs.{needs}
 use lib.Count.{trailingZeros}
 use lib.IntN.{ℤ}
-use Rattle.lexical_text.proofs.Integers.{stored-is, raised-stored}
+use Rattle.lexical_write_float.proofs.StoredLaws.{stored-is, raised-stored}
 use Rattle.lexical_text.proofs.ValueLaws.{trailing-lt, normal-trailing, normal-zero}
 use Rattle.lexical_write_float.proofs.binary.normalized.Statement.{statement}
 use Rattle.lexical_write_float.proofs.binary.normalized.Tie as tie

@@ -1,5 +1,5 @@
 -- `lexical_write_float::binary::raised` meets its contract: an exponent that is not far from 0 has room. Assumes nothing.
-use Rattle.lexical_text.proofs.Integers.{sum-fits, sum-stored}
+use Rattle.lexical_write_float.proofs.StoredLaws.{sum-fits, sum-stored}
 use borrow.Author.Needs.{needs}
 use Rattle.lexical_write_float.proofs.binary.raised.Statement.{statement}
 use Rattle.lexical_write_float.proofs.binary.raised.Tie as tie

@@ -13,7 +13,8 @@ use Rattle.lexical_util.specs.Num.{scale}
 use Rattle.lexical_util.proofs.PowerLaws.{size-pos}
 use Rattle.lexical_text.specs.Value.{normal, modulo}
 use Rattle.lexical_text.specs.Range.{Between}
-use Rattle.lexical_text.proofs.Integers.{between-wider, stored-is, raised-stored, raised-near}
+use Rattle.lexical_text.proofs.Integers.{between-wider}
+use Rattle.lexical_write_float.proofs.StoredLaws.{stored-is, raised-stored, raised-near}
 use Rattle.lexical_text.proofs.LimitLaws.{limited-none, limited-zero, kept, limited-kept, limited-cut}
 use Rattle.lexical_write_float.proofs.binary.truncate_and_round.Statement.{statement}
 use Rattle.lexical_write_float.proofs.binary.truncate_and_round.Tie as tie

@@ -1,6 +1,6 @@
 -- `lexical_write_float::write::write_f32` meets its contract: the check's refusal, or what is asked for by the parts. Assumes nothing.
 use Rattle.lexical_write_float.specs.Code.{Passed}
-use Rattle.lexical_write_float.proofs.AnswerLaws.{float-answered, format-answered, passed, floats-parts}
+use Rattle.lexical_write_float.proofs.AnswerLaws.{float-answered, format-answered, passed, of-float}
 use mathlib.Core.Path.{sym, ap, _∙_, subst}
 use lib.Dec.{T}
 use lib.Ieee.{binary32, fits}
@@ -29,7 +29,7 @@ write-parts-requires c κs =
     let p = c .before in
     let k = p .before .before in
     let s = k .before .before .before .before in
-    (admitted k, floats-parts binary32 (s .args .x) _ (owned s) (p .parts-f32 .ensures .0) (p .parts-f32 .ensures .1))
+    (admitted k, of-float binary32 (s .args .x) _ (owned s) (p .parts-f32 .ensures .0) (p .parts-f32 .ensures .1))
 
 enum-known-refusal : tie.Need-enum-known-refusal
 enum-known-refusal c = search needs

@@ -1,6 +1,6 @@
 -- `lexical_write_float::write::write_parts` meets its contract: by the parts. Assumes nothing.
 use mathlib.Core.Path.{refl, subst}
-use Rattle.lexical_write_float.specs.Code.{FloatsParts}
+use Rattle.lexical_write_float.specs.Code.{OfFloat}
 use borrow.Author.Needs.{needs}
 use Rattle.lexical_write_float.proofs.write.write_parts.Statement.{statement}
 use Rattle.lexical_write_float.proofs.write.write_parts.Tie as tie
@@ -9,7 +9,7 @@ enum-known-parts : tie.Need-enum-known-parts
 enum-known-parts c = search needs
 
 write-float-requires : tie.Need-write-float-requires
-write-float-requires c κs = let q = c .before .before in let s = q .before .before .before in (s .pre .0, subst FloatsParts (q .parts .given .1) (s .pre .1))
+write-float-requires c κs = let q = c .before .before in let s = q .before .before .before in (s .pre .0, subst OfFloat (q .parts .given .1) (s .pre .1))
 
 enum-told : tie.Need-enum-told
 enum-told c = search needs

@@ -8,8 +8,9 @@ use Rattle.lexical_util.specs.Num.{scale, place}
 use Rattle.lexical_text.specs.Text.{point, exponentText, layoutOf, text}
 use Rattle.lexical_write_float.specs.Code.{rowOf, digitsOf, planText, bodyText, powerText}
 use Rattle.lexical_text.proofs.RangeLaws.{place-near}
+use Rattle.lexical_text.proofs.LengthLaws.{power-few}
 use Rattle.lexical_write_float.proofs.PowerLaws.{power-is}
-use Rattle.lexical_write_float.proofs.TextLaws.{Known, known, counted-some, power-few, IsLaid, laid-scientific, laid-negative, laid-positive}
+use Rattle.lexical_write_float.proofs.TextLaws.{Known, known, counted-some, IsLaid, laid-scientific, laid-negative, laid-positive}
 use borrow.Author.Needs.{needs}
 use Rattle.lexical_write_float.proofs.write.write_value.Statement.{statement}
 use Rattle.lexical_write_float.proofs.write.write_value.Tie as tie
