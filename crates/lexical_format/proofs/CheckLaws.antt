@@ -1,33 +1,17 @@
--- The laws of the format's check: the search of the table, a digit as point or mark, the breaks, and checks in two parts. Assumes nothing.
-use Prim.Native.Nat.{ℕ, zero, suc, _+_, _<_}
+-- The laws of the format's check: a digit as point or mark, the breaks, and checks in two parts. Assumes nothing.
+use Prim.Native.Nat.{ℕ, zero, suc}
 use mathlib.Core.Path.{_≡_, refl, sym, ap, _∙_}
-use mathlib.Core.Bool.{Bool, true, false, cond, _&&_}
+use mathlib.Core.Bool.{Bool, true, false, cond}
 use mathlib.Core.List.{List, [], _∷_, _++_}
 use mathlib.Core.Option.{Option, none, some}
-use native.Mathlib.Numerals.{add-one}
-use lib.Dec.{ltb, eqb}
+use lib.Dec.{ltb}
 use lib.IntN.{ℤ, pos, negsuc}
-use lib.ListN.{length, drop, getD}
-use lib.Seq.{drop-cons}
 use Rattle.lexical_util.specs.Answer.{Answer, done, refused, andThen, Check, checked}
 use Rattle.lexical_util.specs.Digit.{digitValue, isSome, digitIn, isDigit}
 use Rattle.lexical_format.specs.declared.format.Pair.{Pair}
 use Rattle.lexical_format.specs.declared.format.NumberFormat.{NumberFormat}
 use Rattle.lexical_format.specs.declared.options.Options.{Options}
-use Rattle.lexical_format.specs.Format.{findPair, pairOf, orAbsent, readingChecks, writingChecks, checkedPair, readingFormat, writingFormat, settled, checkedFormat}
-
--- ---- the search of a table, row by row
-module _ (radix base : ℕ) (rows : List Pair) (i : ℕ) (other : Pair) (inside : i < length rows) where
-  abbrev wanted : Bool
-  wanted = eqb (getD rows i other .radix) radix && eqb (getD rows i other .base) base
-
-  pub find-here : wanted ≡ true → some (getD rows i other) ≡ findPair radix base (drop i rows)
-  unfolding findPair
-  find-here e = rw (drop-cons rows i other inside, e)
-
-  pub find-next : wanted ≡ false → findPair radix base (drop i rows) ≡ findPair radix base (drop (i + 1) rows)
-  unfolding findPair
-  find-next e = rw (add-one, drop-cons rows i other inside, e)
+use Rattle.lexical_format.specs.Format.{pairOf, orAbsent, readingChecks, writingChecks, checkedPair, readingFormat, writingFormat, settled, checkedFormat}
 
 -- ---- a byte by its digit value
 pub digit-of : (radix x d : ℕ) → digitValue x ≡ some d → ltb d radix ≡ isDigit radix x

@@ -1,6 +1,7 @@
 // The part of a format that the Rust packs into its u128 parameter FORMAT: document 01, "Formats".
 ghost use mathlib.Core.Path.{_≡_};
 ghost use Rattle.lexical_format.specs.Format.{pairs, findPair, ofFoundPair};
+ghost use Rattle.lexical_format.specs.Code.{bits, inTable};
 
 // A row of the table of pairs: a radix of b bits to a digit, and the base of the exponent, 2 to the power c.
 pub struct Pair {
@@ -20,87 +21,50 @@ pub struct NumberFormat {
     pub no_exponent_without_fraction: bool,
 }
 
-// Every pair, in document 01's order.
-const PAIRS: [Pair; 10] = [
-    Pair {
-        radix: 2,
-        base: 2,
-        b: 1,
-        c: 1, // 2/2
-    },
-    Pair {
-        radix: 4,
-        base: 4,
-        b: 2,
-        c: 2, // 4/4
-    },
-    Pair {
-        radix: 8,
-        base: 8,
-        b: 3,
-        c: 3, // 8/8
-    },
-    Pair {
-        radix: 16,
-        base: 16,
-        b: 4,
-        c: 4, // 16/16
-    },
-    Pair {
-        radix: 32,
-        base: 32,
-        b: 5,
-        c: 5, // 32/32
-    },
-    Pair {
-        radix: 4,
-        base: 2,
-        b: 2,
-        c: 1, // 4/2
-    },
-    Pair {
-        radix: 8,
-        base: 2,
-        b: 3,
-        c: 1, // 8/2
-    },
-    Pair {
-        radix: 16,
-        base: 2,
-        b: 4,
-        c: 1, // 16/2
-    },
-    Pair {
-        radix: 32,
-        base: 2,
-        b: 5,
-        c: 1, // 32/2
-    },
-    Pair {
-        radix: 16,
-        base: 4,
-        b: 4,
-        c: 2, // 16/4
-    },
-];
-
 // The row of a radix and a base.
 pub(crate) enum FoundPair {
     Row(Pair),
     Unknown,
 }
 
+// The bits of a digit of 2, 4, 8, 16 or 32, and 0 for any other number.
+fn bits_of(number: u32) -> u32
+    ensures { λ r. ⌜ r ≡ bits number ⌝ }
+{
+    match number {
+        2 => 1,
+        4 => 2,
+        8 => 3,
+        16 => 4,
+        32 => 5,
+        _ => 0,
+    }
+}
+
+// Whether the table has a row of these bits: the two equal, the base 2, or 16/4.
+fn in_table(b: u32, c: u32) -> bool
+    ensures { λ r. ⌜ r ≡ inTable b c ⌝ }
+{
+    if b == 0 {
+        return false;
+    }
+    if c == b {
+        return true;
+    }
+    if c == 1 {
+        return true;
+    }
+    b == 4 && c == 2
+}
+
+// A rule in place of a search: a constant table is built anew where it is used, and every call that writes or reads asks for a row.
 pub(crate) fn find_pair(radix: u32, base: u32) -> FoundPair
     ensures { λ r. ⌜ ofFoundPair r ≡ findPair radix base pairs ⌝ }
 {
-    let rows = PAIRS;
-    let mut i = 0;
-    while i < 10 {
-        let row = rows[i];
-        if row.radix == radix && row.base == base {
-            return FoundPair::Row(row);
-        }
-        i += 1;
+    let b = bits_of(radix);
+    let c = bits_of(base);
+    if in_table(b, c) {
+        return FoundPair::Row(Pair { radix, base, b, c });
     }
     FoundPair::Unknown
 }

@@ -1,73 +1,28 @@
--- `lexical_format::format::find_pair` meets its contract: the search of the rows from i on answers what the search of all of them does. Assumes nothing.
-use Prim.Native.Nat.{_≤_, _-_}
-use mathlib.Core.Path.{_≡_, refl, sym, _∙_}
-use mathlib.Core.Logic.{⊎-elim}
-use native.Mathlib.Omega.{arith}
-use borrow.Author.Tests.{eq-eqb, ne-eqb}
-use lib.ListN.{drop}
-use Rattle.lexical_format.specs.declared.format.Pair.{Pair}
-use Rattle.lexical_format.specs.Format.{pair, pairs, findPair}
-use Rattle.lexical_format.proofs.CheckLaws.{find-here, find-next}
+-- `lexical_format::format::find_pair` meets its contract: a pair by its bits is the table's row. Assumes nothing.
+use mathlib.Core.Path.{_≡_, sym, _∙_}
+use mathlib.Core.Bool.{true, false}
+use Rattle.lexical_format.proofs.PairLaws.{find-row}
 use Rattle.lexical_format.proofs.format.find_pair.Statement.{statement}
 use Rattle.lexical_format.proofs.format.find_pair.Tie as tie
 
--- what stands past the table's end
-abbrev other : Pair
-other = pair 0 0 0 0
+bits-of-requires : tie.Need-bits-of-requires
+bits-of-requires c κs = tt
 
-abbrev Inv-loop : tie.InvT-loop
-Inv-loop radix base rows i₀ i = (findPair radix base pairs ≡ findPair radix base (drop i rows)) × (i ≤ 10)
+bits-of-requires-2 : tie.Need-bits-of-requires-2
+bits-of-requires-2 c κs = tt
 
-abbrev μ-loop : tie.MeasureT-loop
-μ-loop radix base rows i₀ i = 10 - i
+in-table-requires : tie.Need-in-table-requires
+in-table-requires c κs = tt
 
-loop-holds : tie.Need-loop-holds Inv-loop μ-loop
-unfolding pairs
-loop-holds c = (refl, omega arith)
-
-mul-row : tie.Need-mul-row Inv-loop μ-loop
-mul-row c = omega arith
-
-array-copy-out-row : tie.Need-array-copy-out-row Inv-loop μ-loop
-array-copy-out-row c = omega arith
-
-returns : tie.Need-returns Inv-loop μ-loop
+returns : tie.Need-returns
 returns c =
-    let r = c .before .before in
-    let l = r .before .before .before .before .loop in
-    find-here _ _ _ (l .i) other (omega arith) (rw (eq-eqb _ _ (r .if1 .taken), c .if2 .taken)) ∙ sym (l .inv .0)
+    let r = c .before in
+    find-row _ _ _ _ true (r .before .before .bits-of .ensures) (r .before .bits-of2 .ensures) (sym (c .if1 .taken) ∙ r .in-table .ensures)
 
-add-i : tie.Need-add-i Inv-loop μ-loop
-add-i c = omega arith
-
-loop-less : tie.Need-loop-less Inv-loop μ-loop
-loop-less c = omega arith
-
-loop-again : tie.Need-loop-again Inv-loop μ-loop
-loop-again c =
-    let l = c .before .before .before .before .loop in (
-      l .inv .0 ∙ find-next _ _ _ (l .i) other (omega arith)
-          (⊎-elim (λ w. rw (eq-eqb _ _ (w .0 .taken), w .2 .left)) (λ w. rw (ne-eqb _ _ (w .left))) (c .if1 .came)),
-      omega arith,
-    )
-
-returns-2 : tie.Need-returns-2 Inv-loop μ-loop
+returns-2 : tie.Need-returns-2
 returns-2 c =
-    let l = c .before .loop in
-    let e : l .i ≡ 10 = omega arith in
-    sym (l .inv .0 ∙ rw e (unfold findPair in refl))
+    let r = c .before in
+    find-row _ _ _ _ false (r .before .before .bits-of .ensures) (r .before .bits-of2 .ensures) (sym (c .if1 .left) ∙ r .in-table .ensures)
 
 pub find-pair-spec : {M : Type 1} → statement M
-find-pair-spec =
-    tie.close
-    (tie.spec
-    Inv-loop
-    μ-loop
-    loop-holds
-    mul-row
-    array-copy-out-row
-    returns
-    add-i
-    loop-less
-    loop-again
-    returns-2)
+find-pair-spec = tie.close (tie.spec bits-of-requires bits-of-requires-2 in-table-requires returns returns-2)
