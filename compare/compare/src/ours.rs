@@ -17,8 +17,8 @@ pub struct Format {
     no_exponent_notation: bool,
     required_exponent_sign: bool,
     no_exponent_without_fraction: bool,
-    trim_floats: bool,
     truncate: bool,
+    trim_floats: bool,
     exponent: u8,
     decimal_point: u8,
 }

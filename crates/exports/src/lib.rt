@@ -9,7 +9,7 @@ use lexical_format::Options;
 use lexical_format::RoundMode;
 use lexical_util::Written;
 
-// A number format and options in one struct. No enum crosses, so the round mode is a flag.
+// A number format and options in one struct, in the order of their own fields, so that they are copied as they stand. No enum crosses, so the round mode is a flag.
 #[repr(C)]
 pub struct Format {
     pub max_significant_digits: u32,
@@ -23,8 +23,8 @@ pub struct Format {
     pub no_exponent_notation: bool,
     pub required_exponent_sign: bool,
     pub no_exponent_without_fraction: bool,
-    pub trim_floats: bool,
     pub truncate: bool,
+    pub trim_floats: bool,
     pub exponent: u8,
     pub decimal_point: u8,
 }

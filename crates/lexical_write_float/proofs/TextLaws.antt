@@ -62,8 +62,11 @@ radix-known (suc (suc (suc (suc (suc zero))))) B K = refl
 radix-known (suc (suc (suc (suc (suc (suc b)))))) B K = absurd (omega arith)
 
 -- a mantissa shifted up by less than a digit fits 64 bits
+pub shift-below : (m k : ℕ) → m < 2 ^ 54 → k < 5 → m * 2 ^ k < 2 ^ 59
+shift-below m k h l = lt-of-lt-of-le (shl-lt 54 k h) (pow-mono {i = 54 + k} {j = 59} (omega arith))
+
 pub shift-fits : (m k : ℕ) → m < 2 ^ 54 → k < 5 → m * 2 ^ k % 18446744073709551616 ≡ m * 2 ^ k
-shift-fits m k h l = mod-eq-of-lt (lt-of-lt-of-le (shl-lt 54 k h) (pow-mono {i = 54 + k} {j = 64} (omega arith)))
+shift-fits m k h l = mod-eq-of-lt (lt-of-lt-of-le (shift-below m k h l) (pow-mono {i = 59} {j = 64} (omega arith)))
 
 pub counted-some : (D : Digits) → Counted D → 0 < D .count
 counted-some D C =

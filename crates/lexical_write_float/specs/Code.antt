@@ -60,6 +60,7 @@ pub record Counted (D : Digits) : Type 0 where
   pub few-bits : D .«bits_per_digit» ≤ 5
   pub count-is : D .count ≡ length (digitsOf D)
   pub few : D .count ≤ 64
+  pub small : D .value < 2 ^ 59
 
 -- what stands from the point on
 unfoldable pub fractionText : ℕ → Plan → List ℕ → List ℕ

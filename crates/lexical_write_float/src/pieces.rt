@@ -2,14 +2,13 @@
 ghost use mathlib.Core.Path.{_≡_};
 ghost use mathlib.Core.Bool.{true};
 ghost use mathlib.Core.List.{[], _∷_};
-ghost use Prim.Native.Nat.{_+_, _≤_};
+ghost use Prim.Native.Nat.{_+_, _^_, _≤_, _<_};
 ghost use lib.ListN.{length};
 ghost use Rattle.lexical_util.specs.Digit.{isRadix};
 ghost use Rattle.lexical_write_integer.specs.Digits.{numeral};
-ghost use Rattle.lexical_write_integer.specs.Write.{run};
+ghost use Rattle.lexical_write_integer.specs.Write.{lastNumeral};
 ghost use Rattle.lexical_text.specs.Text.{zeros};
-ghost use Rattle.lexical_write_float.specs.Code.{Puts, Counted, digitsOf};
-use crate::plan::Digits;
+ghost use Rattle.lexical_write_float.specs.Code.{Puts};
 use lexical_util::Written;
 
 pub(crate) fn put_byte(buffer: &mut [u8], at: usize, byte: u8) -> usize
@@ -44,22 +43,21 @@ pub(crate) fn put_integer(buffer: &mut [u8], at: usize, value: u64, radix: u32) 
     }
 }
 
-// The digits of D from one place up to another.
+// The last count digits of value, of so many bits each.
 pub(crate) fn put_digits(
     buffer: &mut [u8],
     at: usize,
-    digits: Digits,
-    from: usize,
-    to: usize,
+    value: u64,
+    bits_per_digit: u32,
+    count: usize,
 ) -> usize
-    requires { ⌜ Counted digits × (at + length (run from to (digitsOf digits)) ≤ length (now buffer)) ⌝ }
-    ensures { λ r. ⌜ Puts (now (buffer .entry)) at (run from to (digitsOf digits)) r (now (buffer .exit)) ⌝ }
+    requires { ⌜ (0 < «bits_per_digit») × («bits_per_digit» ≤ 5) × (at + count ≤ length (now buffer)) ⌝ }
+    ensures { λ r. ⌜ Puts (now (buffer .entry)) at (lastNumeral (2 ^ «bits_per_digit») count value) r (now (buffer .exit)) ⌝ }
 {
     let written = lexical_write_integer::write_mantissa(
-        digits.value,
-        digits.bits_per_digit,
-        from,
-        to,
+        value,
+        bits_per_digit,
+        count,
         &mut buffer[at..],
     );
     match written {

@@ -52,7 +52,8 @@ fn put_fraction(buffer: &mut [u8], at: usize, digits: Digits, plan: Plan, point:
     if plan.point {
         let gap = put_byte(buffer, at, point);
         let rest = put_zeros(buffer, gap, plan.gap);
-        let padding = put_digits(buffer, rest, digits, plan.leading, digits.count);
+        let count = digits.count - plan.leading;
+        let padding = put_digits(buffer, rest, digits.value, digits.bits_per_digit, count);
         return put_zeros(buffer, padding, plan.padding);
     }
     at
@@ -63,7 +64,10 @@ pub(crate) fn put_plan(buffer: &mut [u8], digits: Digits, plan: Plan, point: u8)
     requires { ⌜ Counted digits × Small (digits .count) plan × (length (planText point plan (digitsOf digits)) ≤ length (now buffer)) ⌝ }
     ensures { λ r. ⌜ Puts (now (buffer .entry)) 0 (planText point plan (digitsOf digits)) r (now (buffer .exit)) ⌝ }
 {
-    let filled = put_digits(buffer, 0, digits, 0, plan.leading);
+    // The other digits are shifted out.
+    let shift = digits.bits_per_digit as usize * (digits.count - plan.leading);
+    let leading = digits.value >> shift;
+    let filled = put_digits(buffer, 0, leading, digits.bits_per_digit, plan.leading);
     let fraction = put_zeros(buffer, filled, plan.filled);
     put_fraction(buffer, fraction, digits, plan, point)
 }

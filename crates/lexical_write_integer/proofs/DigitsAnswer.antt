@@ -9,8 +9,7 @@ use Rattle.lexical_util.specs.Digit.{isRadix}
 use Rattle.lexical_util.proofs.AnswerLaws.{text-fits, text-short}
 use Rattle.lexical_util.proofs.RadixLaws.{radix-bounds}
 use Rattle.lexical_write_integer.specs.Digits.{digits}
-use Rattle.lexical_write_integer.specs.Code.{lastNumeral}
-use Rattle.lexical_write_integer.specs.Write.{digitsText, digitCount}
+use Rattle.lexical_write_integer.specs.Write.{lastNumeral, digitsText, digitCount}
 use Rattle.lexical_write_integer.proofs.LastLaws.{length-last, numeral-last}
 
 -- ---- how many

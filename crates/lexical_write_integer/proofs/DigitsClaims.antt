@@ -1,13 +1,13 @@
--- The laws of a number's digits and of runs, as they are claimed. Assumes nothing.
+-- The laws of a number's digits and of its last ones, as they are claimed. Assumes nothing.
 use Prim.Native.Nat.{ℕ, zero, suc, _+_, _-_, _/_, _^_, _<_}
-use mathlib.Core.Path.{_≡_, ap, _∙_}
+use mathlib.Core.Path.{_≡_, sym, ap, _∙_}
 use native.Mathlib.Nat.{div-eq-of-lt, add-div-right, zero-lt-suc}
 use native.Mathlib.Omega.{arith}
 use lib.Pow.{pow-pos}
 use lib.Ieee.{size}
-use Rattle.lexical_write_integer.specs.Claims.{ReadBack, EachBelow, NoLeadingZero, DigitCount, RunsJoin}
+use Rattle.lexical_write_integer.specs.Claims.{ReadBack, EachBelow, NoLeadingZero, DigitCount, LastJoin, LastAreAll}
 use Rattle.lexical_write_integer.proofs.DigitsLaws.{digits-value, digits-below, first-pos, count-lt, count-bits}
-use Rattle.lexical_write_integer.proofs.RunLaws.{run-join}
+use Rattle.lexical_write_integer.proofs.LastLaws.{numeral-last, last-add}
 use Rattle.lexical_util.proofs.PowerLaws.{size-zero, size-pos}
 
 pub read-back : ReadBack
@@ -29,5 +29,8 @@ digit-count b (suc x) B =
     let q : (size (suc x) + b - 1) / b ≡ (size (suc x) - 1) / b + 1 = ap (λ (k : ℕ). k / b) e ∙ add-div-right (size (suc x) - 1) {k = b} B in
     omega (arith, count-bits b (suc x) B (zero-lt-suc x))
 
-pub runs-join : RunsJoin
-runs-join = run-join
+pub last-join : LastJoin
+last-join = last-add
+
+pub last-are-all : LastAreAll
+last-are-all radix x h = sym (numeral-last radix h x)

@@ -6,7 +6,7 @@ use native.Mathlib.Nat.{add-zero, add-suc, div-one, div-div-eq-div-mul, pow-zero
 use native.Mathlib.Numerals.{add-one}
 use lib.ListN.{length, length-append}
 use Rattle.lexical_write_integer.specs.Digits.{digits, numeral}
-use Rattle.lexical_write_integer.specs.Code.{lastNumeral}
+use Rattle.lexical_write_integer.specs.Write.{lastNumeral}
 use Rattle.lexical_write_integer.proofs.DigitsLaws.{by-quotient, count-lt, count-ge, numeral-lt, numeral-ge}
 
 pub length-last : (r k x : ℕ) → length (lastNumeral r k x) ≡ k

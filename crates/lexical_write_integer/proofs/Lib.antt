@@ -3,7 +3,7 @@ pub mod MantissaAnswer
 pub mod CountLaws
 pub mod DigitsLaws
 pub mod LastLaws
-pub mod RunLaws
+pub mod SplitLaws
 pub mod FillLaws
 pub mod PairLaws
 pub mod DigitsClaims

@@ -1,13 +1,13 @@
--- What the laws of a number's digits, and of runs of them, say. Statements only; `DigitsClaims` proves them.
-use Prim.Native.Nat.{ℕ, _+_, _-_, _/_, _^_, _≤_, _<_, max}
+-- What the laws of a number's digits, and of its last ones, say. Statements only; `DigitsClaims` proves them.
+use Prim.Native.Nat.{ℕ, _+_, _-_, _/_, _^_, _<_, max}
 use mathlib.Core.Path.{_≡_}
 use mathlib.Core.Logic.{_≢_}
-use mathlib.Core.List.{List, _++_}
+use mathlib.Core.List.{_++_}
 use lib.ListN.{length, getD}
 use lib.Ieee.{size}
 use Rattle.lexical_util.specs.Digit.{AreDigits, digitsValue}
-use Rattle.lexical_write_integer.specs.Digits.{digits}
-use Rattle.lexical_write_integer.specs.Write.{run}
+use Rattle.lexical_write_integer.specs.Digits.{digits, numeral}
+use Rattle.lexical_write_integer.specs.Write.{lastNumeral}
 
 -- read back, the digits are the number
 abbrev pub ReadBack : Type 0
@@ -25,6 +25,10 @@ NoLeadingZero = (radix x : ℕ) → 1 < radix → 0 < x → getD (digits radix x
 abbrev pub DigitCount : Type 0
 DigitCount = (b x : ℕ) → 0 < b → length (digits (2 ^ b) x) ≡ max 1 ((size x + b - 1) / b)
 
--- two neighbouring runs make one
-abbrev pub RunsJoin : Type 0
-RunsJoin = (from at to : ℕ) (xs : List ℕ) → from ≤ at → at ≤ to → run from at xs ++ run at to xs ≡ run from to xs
+-- the last digits are those of the quotient, and then more
+abbrev pub LastJoin : Type 0
+LastJoin = (radix j k x : ℕ) → lastNumeral radix (j + k) x ≡ lastNumeral radix j (x / radix ^ k) ++ lastNumeral radix k x
+
+-- as many of them as there are digits are the digits
+abbrev pub LastAreAll : Type 0
+LastAreAll = (radix x : ℕ) → 1 < radix → lastNumeral radix (length (digits radix x)) x ≡ numeral radix x

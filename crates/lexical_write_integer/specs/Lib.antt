@@ -1,5 +1,4 @@
 pub mod Digits
 pub mod Table
 pub mod Write
-pub mod Code
 pub mod Claims

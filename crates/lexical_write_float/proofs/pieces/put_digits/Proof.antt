@@ -1,18 +1,22 @@
--- `lexical_write_float::pieces::put_digits` meets its contract: the run has room, so it is written. Assumes nothing.
+-- `lexical_write_float::pieces::put_digits` meets its contract: the digits have room, so they are written. Assumes nothing.
+use Prim.Native.Nat.{_+_, _^_, _≤_}
 use mathlib.Core.Path.{_≡_, sym, ap, _∙_}
 use native.Mathlib.Omega.{arith}
-use borrow.Author.Tests.{le-leb}
 use Rattle.lexical_util.specs.Answer.{done, ofWritten}
-use Rattle.lexical_write_integer.specs.Write.{run, mantissaText}
-use Rattle.lexical_write_float.specs.Code.{digitsOf}
+use lib.ListN.{length}
+use Rattle.lexical_write_integer.specs.Write.{lastNumeral, mantissaText}
+use Rattle.lexical_write_integer.proofs.LastLaws.{length-last}
+use Rattle.lexical_write_integer.proofs.MantissaAnswer.{asked}
 use Rattle.lexical_write_float.proofs.PutLaws.{part-count, part-puts, part-refused}
 use borrow.Author.Needs.{needs}
 use Rattle.lexical_write_float.proofs.pieces.put_digits.Statement.{statement}
 use Rattle.lexical_write_float.proofs.pieces.put_digits.Tie as tie
 
-asked : (c : tie.Start) → mantissaText (c .args .digits .value) (c .args .digits .«bits_per_digit») (c .args .from) (c .args .to) ≡ done (run (c .args .from) (c .args .to) (digitsOf (c .args .digits)))
-unfolding mantissaText
-asked c = let D = c .args .digits in rw (le-leb 1 (D .«bits_per_digit») (c .pre .0 .some-bits), le-leb (D .«bits_per_digit») 5 (c .pre .0 .few-bits))
+wanted : (c : tie.Start) → mantissaText (c .args .value) (c .args .bits-per-digit) (c .args .count) ≡ done (lastNumeral (2 ^ c .args .bits-per-digit) (c .args .count) (c .args .value))
+wanted c = asked (c .args .value) (c .args .bits-per-digit) (c .args .count) (c .pre .0) (c .pre .1)
+
+room : (c : tie.Start) → c .args .at + length (lastNumeral (2 ^ c .args .bits-per-digit) (c .args .count) (c .args .value)) ≤ length (c .args .buffer .now)
+room c = rw (length-last (2 ^ c .args .bits-per-digit) (c .args .count) (c .args .value)) (c .pre .2)
 
 sub-write-mantissa : tie.Need-sub-write-mantissa
 sub-write-mantissa c = search needs
@@ -33,7 +37,7 @@ add-result : tie.Need-add-result
 add-result c =
     let w = c .before .before .before .before .before in
     let s = w .before .before .before in
-    omega (arith, part-count _ _ (s .args .buffer .now) (s .args .at) (asked s) (s .pre .1) _ (sym (ap ofWritten (c .before .written .given .1)) ∙ w .write-mantissa .ensures .0))
+    omega (arith, room s, part-count _ _ (s .args .buffer .now) (s .args .at) (wanted s) (room s) _ (sym (ap ofWritten (c .before .written .given .1)) ∙ w .write-mantissa .ensures .0))
 
 enum-told : tie.Need-enum-told
 enum-told c = search needs
@@ -45,7 +49,7 @@ returns : tie.Need-returns
 returns c =
     let w = c .before .before .before .before .before in
     let s = w .before .before .before in
-    part-puts _ _ (s .args .buffer .now) (s .args .at) (asked s) (s .pre .1) _ _ (sym (ap ofWritten (c .before .written .given .1)) ∙ w .write-mantissa .ensures .0) (w .write-mantissa .ensures .1)
+    part-puts _ _ (s .args .buffer .now) (s .args .at) (wanted s) (room s) _ _ (sym (ap ofWritten (c .before .written .given .1)) ∙ w .write-mantissa .ensures .0) (w .write-mantissa .ensures .1)
 
 same-length-2 : tie.Need-same-length-2
 same-length-2 c = search needs
@@ -54,7 +58,7 @@ returns-2 : tie.Need-returns-2
 returns-2 c =
     let w = c .before .before .before .before in
     let s = w .before .before .before in
-    absurd (part-refused _ _ (s .args .buffer .now) (s .args .at) (asked s) (s .pre .1) _ _ (sym (ap ofWritten (c .enum-told .given .1)) ∙ w .write-mantissa .ensures .0))
+    absurd (part-refused _ _ (s .args .buffer .now) (s .args .at) (wanted s) (room s) _ _ (sym (ap ofWritten (c .enum-told .given .1)) ∙ w .write-mantissa .ensures .0))
 
 pub put-digits-spec : {M : Type 1} → statement M
 put-digits-spec =

@@ -1,11 +1,12 @@
 -- `lexical_write_float::plan::put_fraction` meets its contract: point, zeros, digits and zeros, each where the one before it ended. Assumes nothing.
-use Prim.Native.Nat.{ℕ, _+_, _-_, _≤_}
+use Prim.Native.Nat.{ℕ, _+_, _-_, _^_, _≤_}
 use native.Mathlib.Omega.{arith}
 use lib.ListN.{length, length-replicate}
 use Rattle.lexical_write_float.specs.Code.{digitsOf, fractionText}
 use Rattle.lexical_write_float.proofs.PutLaws.{puts-none, puts-more}
 use Rattle.lexical_write_float.proofs.PlanLaws.{fraction-length}
-use Rattle.lexical_write_integer.proofs.RunLaws.{run-back, run-length}
+use Rattle.lexical_write_integer.proofs.LastLaws.{length-last}
+use Rattle.lexical_write_integer.proofs.SplitLaws.{back}
 use borrow.Author.Needs.{needs}
 use Rattle.lexical_write_float.proofs.plan.put_fraction.Statement.{statement}
 use Rattle.lexical_write_float.proofs.plan.put_fraction.Tie as tie
@@ -20,26 +21,26 @@ put-byte-requires c κs = omega (arith, room (c .before))
 put-zeros-requires : tie.Need-put-zeros-requires
 put-zeros-requires c κs = let p = c .before .before .before in omega (arith, room (p .before .before), p .put-byte .ensures .next-is)
 
+sub-count : tie.Need-sub-count
+sub-count c = omega (arith, c .before .before .before .before .before .before .before .before .before .before .before .before .pre .1 .leading-few)
+
 put-digits-requires : tie.Need-put-digits-requires
 put-digits-requires c κs =
-    let z = c .before .before .before in
+    let z = c .before .before .before .before .before in
     let p = z .before .before .before .before in
     let t = p .before .before in
     let s = t .before .before in
-    let a = s .args in
-    let n = s .pre .0 .count-is in
-    (s .pre .0, omega (arith, room t, p .put-byte .ensures .next-is, z .put-zeros .ensures .next-is, length-replicate {A = ℕ} (a .plan .gap) 48, run-length (a .plan .leading) (a .digits .count) (digitsOf (a .digits)), n))
+    (s .pre .0 .some-bits, s .pre .0 .few-bits, omega (arith, room t, p .put-byte .ensures .next-is, z .put-zeros .ensures .next-is, length-replicate {A = ℕ} (s .args .plan .gap) 48))
 
 put-zeros-requires-2 : tie.Need-put-zeros-requires-2
 put-zeros-requires-2 c κs =
     let d = c .before .before .before in
-    let z = d .before .before .before .before in
+    let z = d .before .before .before .before .before .before in
     let p = z .before .before .before .before in
     let t = p .before .before in
     let s = t .before .before in
     let a = s .args in
-    let n = s .pre .0 .count-is in
-    omega (arith, room t, p .put-byte .ensures .next-is, z .put-zeros .ensures .next-is, length-replicate {A = ℕ} (a .plan .gap) 48, d .put-digits .ensures .next-is, run-length (a .plan .leading) (a .digits .count) (digitsOf (a .digits)), n)
+    omega (arith, room t, p .put-byte .ensures .next-is, z .put-zeros .ensures .next-is, length-replicate {A = ℕ} (a .plan .gap) 48, d .put-digits .ensures .next-is, length-last (2 ^ a .digits .«bits_per_digit») (a .digits .count - a .plan .leading) (a .digits .value))
 
 same-length : tie.Need-same-length
 same-length c = search needs
@@ -49,17 +50,16 @@ unfolding fractionText
 returns c =
     let y = c .before .before in
     let d = y .before .before .before .before in
-    let z = d .before .before .before .before in
+    let z = d .before .before .before .before .before .before in
     let p = z .before .before .before .before in
     let t = p .before .before in
     let s = t .before .before in
     let a = s .args in
-    let D = digitsOf (a .digits) in
-    let back = rw (run-back (a .plan .leading) (a .digits .count) D (omega (arith, s .pre .0 .count-is))) at (d .put-digits .ensures) in
+    let rest = rw (back (a .digits .«bits_per_digit») (a .digits .value) (a .digits .count) (a .plan .leading) (s .pre .0 .some-bits) (s .pre .0 .count-is) (s .pre .1 .leading-few)) at (d .put-digits .ensures) in
     rw (t .if1 .taken)
     (puts-more _ _ _ (omega (arith, room t)) (p .put-byte .ensures)
     (puts-more _ _ _ (omega (arith, room t, p .put-byte .ensures .next-is)) (z .put-zeros .ensures)
-    (puts-more _ _ _ (omega (arith, room t, p .put-byte .ensures .next-is, z .put-zeros .ensures .next-is, length-replicate {A = ℕ} (a .plan .gap) 48)) back (y .put-zeros2 .ensures))))
+    (puts-more _ _ _ (omega (arith, room t, p .put-byte .ensures .next-is, z .put-zeros .ensures .next-is, length-replicate {A = ℕ} (a .plan .gap) 48)) rest (y .put-zeros2 .ensures))))
 
 returns-2 : tie.Need-returns-2
 unfolding fractionText
@@ -71,6 +71,7 @@ put-fraction-spec =
     (tie.spec
     put-byte-requires
     put-zeros-requires
+    sub-count
     put-digits-requires
     put-zeros-requires-2
     same-length

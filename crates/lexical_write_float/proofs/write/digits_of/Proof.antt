@@ -1,7 +1,7 @@
 -- `lexical_write_float::write::digits_of` meets its contract: the shifted mantissa fits, and spells D. Assumes nothing.
 use mathlib.Core.Bool.{true}
 use Rattle.lexical_util.specs.Digit.{isRadix}
-use Prim.Native.Nat.{_≤_, ℕ, _*_, _%_, _^_}
+use Prim.Native.Nat.{_≤_, _<_, ℕ, _*_, _%_, _^_}
 use lib.IntN.{ℤ}
 use Rattle.lexical_util.proofs.DifferenceLaws.{widened}
 use mathlib.Core.Path.{_≡_, ap, _∙_}
@@ -13,7 +13,7 @@ use Rattle.lexical_write_integer.specs.Digits.{numeral}
 use Rattle.lexical_text.specs.Value.{modulo, exactDigits}
 use Rattle.lexical_write_float.proofs.PowerLaws.{count-is}
 use Rattle.lexical_text.proofs.ValueLaws.{exact-few}
-use Rattle.lexical_write_float.proofs.TextLaws.{radix-known, shift-fits}
+use Rattle.lexical_write_float.proofs.TextLaws.{radix-known, shift-below, shift-fits}
 use borrow.Author.Needs.{needs}
 use Rattle.lexical_write_float.proofs.write.digits_of.Statement.{statement}
 use Rattle.lexical_write_float.proofs.write.digits_of.Tie as tie
@@ -52,11 +52,12 @@ returns c =
     let k = c .before .before in
     let s = k .before .before .before in
     let a = s .args in
+    let short : k .calculate-shl .result < 5 = omega (arith, k .calculate-shl .ensures .1, s .pre .2) in
     let known : isRadix (a .radix) ≡ true = rw (s .pre .0) (radix-known (a .bits-per-digit) (s .pre .1) (s .pre .2)) in
     let n : c .digit-count .result ≡ length (numeral (2 ^ a .bits-per-digit) (shifted k)) = rw (s .pre .0) at (c .digit-count .ensures ∙ count-is (a .radix) (shifted k) known) in
     let same = ap (numeral (2 ^ a .bits-per-digit)) (shift-is k) in
     let few : length (numeral (2 ^ a .bits-per-digit) (a .value .mantissa * 2 ^ modulo (a .value .exponent) (a .bits-per-digit))) ≤ 64 = exact-few (a .bits-per-digit) (a .value .mantissa) (a .value .exponent) (s .pre .1) (s .pre .2) (s .pre .3) in
-    (same, record { some-bits = s .pre .1; few-bits = s .pre .2; count-is = n; few = rw (n, same) few })
+    (same, record { some-bits = s .pre .1; few-bits = s .pre .2; count-is = n; few = rw (n, same) few; small = rw (shift-fits (a .value .mantissa) (k .calculate-shl .result) (s .pre .3) short) (shift-below (a .value .mantissa) (k .calculate-shl .result) (s .pre .3) short) })
 
 pub digits-of-spec : {M : Type 1} → statement M
 digits-of-spec =
