@@ -29,7 +29,7 @@ use Rattle.lexical_text.specs.Value.{Value, exactDigits}
 use Rattle.lexical_text.specs.Text.{layoutOf, digitsSoFar, laidOut, text, exponentText}
 use Rattle.lexical_text.specs.Write.{limitedText, floatText, writeText, NoLonger, NeverRefused}
 use Rattle.lexical_text.specs.Range.{Between}
-use Rattle.lexical_write_float.specs.Code.{Passed, rowOf, OfFloat, partsText}
+use Rattle.lexical_write_float.specs.Code.{Passed, rowOf, OfFloat, partsText, askedByParts}
 use Rattle.lexical_write_float.proofs.FloatLaws.{float-normal}
 use Rattle.lexical_text.proofs.WriteLaws.{longest-text}
 
@@ -93,18 +93,13 @@ own-text f F o (fin false m e) row t v =
     let x : Float = fin false m e in
     ap done (ap (λ (y : Value). limitedText F o (rowOf (settled o row)) (y .m) (y .e)) (float-normal f m (mantissa f x) e (exponent f x) t v) ∙ (unfold limitedText in row-text F o row _ _))
 
-parts-text : (f : Format) (F : NumberFormat) (o : Options) (x : Float) (r : Parts) (c : CheckedFormat) → Passed F o c → T (fits f x) → r ≡ partsOf f x → IsValue x r → partsText F o c r ≡ writeText F o x
-unfolding writeText
-parts-text f F o x r c P t e v =
-    rw (e, P .is-settled, P .is-row) (own-text f F o x (P .row) t (subst (IsValue x) e v))
-
-format-refused : (F : NumberFormat) (o : Options) (x : Float) (n p : ℕ) → refused n p ≡ checkedFormat F o → refused n p ≡ writeText F o x
+parts-text : (f : Format) (F : NumberFormat) (o : Options) (x : Float) (r : Parts) → T (fits f x) → r ≡ partsOf f x → IsValue x r → askedByParts F o r ≡ writeText F o x
 unfolding checkedFormat writeText
-format-refused F o x n p e = go (writingFormat F o) e
+parts-text f F o x r t e v = go (writingFormat F o)
   where
-    go : (a : Answer Pair) → refused n p ≡ andThen a (λ row. done (settled o row)) → refused n p ≡ andThen a (floatText F o x)
-    go (done row) e = absurd (refused-done n p (settled o row) e)
-    go (refused k q) e = cc
+    go : (a : Answer Pair) → andThen (andThen a (λ row. done (settled o row))) (λ c. partsText F o c r) ≡ andThen a (floatText F o x)
+    go (done row) = rw e (own-text f F o x row t (subst (IsValue x) e v))
+    go (refused n p) = refl
 
 -- ---- what is said of every answer
 module _ (F : NumberFormat) (o : Options) (x : Float) (out : List ℕ) (a : Answer ℕ) (e : a ≡ written (writeText F o x) out) where
@@ -133,13 +128,8 @@ Answered F o x out a b = (a ≡ written (writeText F o x) out) × ((b ≡ held (
 answered : (f : Format) (F : NumberFormat) (o : Options) (x : Float) (out : List ℕ) (a : Answer ℕ) (b : List ℕ) → T (fits f x) → a ≡ written (writeText F o x) out → b ≡ held (writeText F o x) out → Answered F o x out a b
 answered f F o x out a b t e h = (e, (h, (no-longer F o x out a e f t, never-refused F o x out a e)))
 
-module _ (f : Format) (F : NumberFormat) (o : Options) (x : Float) (out : List ℕ) (t : T (fits f x)) where
-  pub float-answered : (c : CheckedFormat) (r : Parts) (a : Answer ℕ) (b : List ℕ) → Passed F o c → r ≡ partsOf f x → IsValue x r → a ≡ written (partsText F o c r) out → b ≡ held (partsText F o c r) out → Answered F o x out a b
-  float-answered c r a b P e v w h =
-      let same = parts-text f F o x r c P t e v in
-      answered f F o x out a b t (w ∙ ap (λ (k : Answer (List ℕ)). written k out) same) (h ∙ ap (λ (k : Answer (List ℕ)). held k out) same)
-
-  pub format-answered : (n p : ℕ) → refused n p ≡ checkedFormat F o → Answered F o x out (refused n p) out
-  format-answered n p e =
-      let same = format-refused F o x n p e in
-      answered f F o x out (refused n p) out t (ap (λ (k : Answer (List ℕ)). written k out) same) (ap (λ (k : Answer (List ℕ)). held k out) same)
+pub float-answered : (f : Format) (F : NumberFormat) (o : Options) (x : Float) (out : List ℕ) → T (fits f x) → (r : Parts) (a : Answer ℕ) (b : List ℕ) → r ≡ partsOf f x → IsValue x r
+    → a ≡ written (askedByParts F o r) out → b ≡ held (askedByParts F o r) out → Answered F o x out a b
+float-answered f F o x out t r a b e v w h =
+    let same = parts-text f F o x r t e v in
+    answered f F o x out a b t (w ∙ ap (λ (k : Answer (List ℕ)). written k out) same) (h ∙ ap (λ (k : Answer (List ℕ)). held k out) same)

@@ -13,16 +13,21 @@ use Rattle.lexical_write_integer.proofs.DigitsLaws.{length-numeral}
 use Rattle.lexical_format.specs.declared.format.Pair.{Pair}
 use Rattle.lexical_format.specs.declared.format.NumberFormat.{NumberFormat}
 use Rattle.lexical_format.specs.declared.options.Options.{Options}
+use Rattle.lexical_text.specs.declared.layout.Layout.{Layout}
+use Rattle.lexical_text.specs.declared.layout.Layout.the-variants.{Scientific}
 use Rattle.lexical_text.specs.Text.{exponentText}
-use Rattle.lexical_write_float.specs.Code.{signText, powerText}
+use Rattle.lexical_write_float.specs.Code.{signText, powerText, tailText}
 
 pub count-is : (radix n : ℕ) → isRadix radix ≡ true → digitCount n radix ≡ length (numeral radix n)
 unfolding digitCount
 count-is radix n R = rw R (sym (length-numeral radix n))
 
-pub power-length : (mark : ℕ) (negative plus : Bool) (radix n : ℕ) → length (powerText mark negative plus radix n) ≡ 1 + length (signText negative plus) + length (numeral radix n)
+power-length : (mark : ℕ) (negative plus : Bool) (radix n : ℕ) → length (powerText mark negative plus radix n) ≡ 1 + length (signText negative plus) + length (numeral radix n)
 unfolding powerText
 power-length mark negative plus radix n = simp length-append (omega arith)
+
+pub tail-length : (l : Layout) (mark : ℕ) (negative plus : Bool) (radix n : ℕ) → l ≡ Scientific → length (tailText l mark negative plus radix n) ≡ 1 + length (signText negative plus) + length (numeral radix n)
+tail-length l mark negative plus radix n e = rw e (power-length mark negative plus radix n)
 
 -- the sign and the magnitude of p * b / c
 pub power-is : (F : NumberFormat) (o : Options) (row : Pair) (p : ℤ)

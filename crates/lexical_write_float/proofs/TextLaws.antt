@@ -1,14 +1,14 @@
 -- A text by its pieces: what the code knows of a checked format, of D and of a layout. Assumes nothing.
 use Prim.Native.Nat.{ℕ, zero, suc, _+_, _*_, _%_, _^_, _≤_, _<_}
-use mathlib.Core.Path.{_≡_, refl, sym}
-use mathlib.Core.Bool.{true}
-use mathlib.Core.List.{List, _++_}
+use mathlib.Core.Path.{_≡_, refl, sym, ap, _∙_}
+use mathlib.Core.Bool.{Bool, true}
+use mathlib.Core.List.{List, _++_, append-nil}
 use native.Mathlib.Nat.{mod-eq-of-lt, lt-of-lt-of-le}
 use native.Mathlib.Omega.{arith}
-use lib.IntN.{ℤ}
+use lib.IntN.{ℤ, natAbs}
 use lib.Pow.{pow-mono, shl-lt}
 use Rattle.lexical_util.specs.Digit.{isRadix}
-use Rattle.lexical_util.specs.Num.{scale, place, power}
+use Rattle.lexical_util.specs.Num.{scale, place, isNegative, power}
 use Rattle.lexical_write_integer.proofs.DigitsLaws.{length-numeral, count-pos, radix-above}
 use Rattle.lexical_format.specs.declared.checks.CheckedFormat.{CheckedFormat}
 use Rattle.lexical_format.specs.declared.format.NumberFormat.{NumberFormat}
@@ -19,8 +19,9 @@ use Rattle.lexical_text.specs.declared.layout.Layout.{Layout}
 use Rattle.lexical_text.specs.declared.layout.Layout.the-variants.{Scientific, Negative, Positive}
 use Rattle.lexical_write_float.specs.declared.plan.Digits.{Digits}
 use Rattle.lexical_text.specs.Value.{exactDigits}
-use Rattle.lexical_text.specs.Text.{least, exponentText, layoutOf, digitsSoFar, text}
-use Rattle.lexical_write_float.specs.Code.{Passed, rowOf, Counted, bodyText}
+use Rattle.lexical_text.specs.Text.{least, scientific, negative, positive, layoutOf, digitsSoFar, laidOut, text}
+use Rattle.lexical_write_float.specs.Code.{Passed, rowOf, Counted, bodyText, tailText}
+use Rattle.lexical_write_float.proofs.PowerLaws.{power-is}
 
 -- ---- a format that passed the check
 pub record Known (F : NumberFormat) (o : Options) (c : CheckedFormat) : Type 0 where
@@ -81,14 +82,17 @@ module _ (F : NumberFormat) (o : Options) (c : CheckedFormat) (m : ℕ) (e : ℤ
     pub so-far-is : soFar ≡ digitsSoFar F o m D
     pub layout-is : l ≡ layoutOf F o (scale m e)
 
-  pub laid-scientific : IsLaid → l ≡ Scientific → bodyText F o p soFar l D ++ exponentText F o (rowOf c) p ≡ text F o (rowOf c) m e
-  unfolding text
-  laid-scientific h q = rw (sym (h .layout-is), q, h .digits-are, h .place-is) refl
+  -- a plan's text and what stands behind it, layout by layout
+  by-layout : (D : List ℕ) (p : ℤ) (soFar : ℕ) (l : Layout)
+      → bodyText F o p soFar l D ++ tailText l (o .exponent) (isNegative p) (F .«required_exponent_sign») (F .«exponent_radix») (power (c .b) (c .c) p) ≡ laidOut F o (rowOf c) D p soFar l
+  by-layout D p soFar Scientific = ap (λ (t : List ℕ). scientific F o D ++ t) (power-is F o (rowOf c) p)
+  by-layout D p soFar Negative = append-nil (negative F o D p)
+  by-layout D p soFar Positive = append-nil (positive F o D (natAbs p + 1) soFar)
 
-  pub laid-negative : IsLaid → l ≡ Negative → bodyText F o p soFar l D ≡ text F o (rowOf c) m e
+  laid : IsLaid → laidOut F o (rowOf c) D p soFar l ≡ text F o (rowOf c) m e
   unfolding text
-  laid-negative h q = rw (sym (h .layout-is), q, h .digits-are, h .place-is) refl
+  laid h = rw (sym (h .layout-is), h .so-far-is, h .digits-are, h .place-is) refl
 
-  pub laid-positive : IsLaid → l ≡ Positive → bodyText F o p soFar l D ≡ text F o (rowOf c) m e
-  unfolding text
-  laid-positive h q = rw (sym (h .layout-is), q, h .so-far-is, h .digits-are, h .place-is) refl
+  pub laid-text : IsLaid → (negative : Bool) (n : ℕ) → negative ≡ isNegative p → n ≡ power (c .b) (c .c) p
+      → bodyText F o p soFar l D ++ tailText l (o .exponent) negative (F .«required_exponent_sign») (F .«exponent_radix») n ≡ text F o (rowOf c) m e
+  laid-text h negative n e k = rw (e, k) (by-layout D p soFar l ∙ laid h)

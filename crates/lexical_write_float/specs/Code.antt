@@ -7,7 +7,7 @@ use lib.Dec.{T}
 use lib.IntN.{ℤ, natAbs}
 use lib.ListN.{length, take, drop}
 use lib.Ieee.{Format, fin, fits}
-use Rattle.lexical_util.specs.Answer.{Answer, done, refused}
+use Rattle.lexical_util.specs.Answer.{Answer, done, refused, andThen}
 use Rattle.lexical_util.specs.declared.num.Magnitude.{Magnitude}
 use Rattle.lexical_util.specs.declared.num.Parts.{Parts}
 use Rattle.lexical_util.specs.declared.num.Parts.the-variants as parts
@@ -16,7 +16,7 @@ use Rattle.lexical_format.specs.declared.checks.CheckedFormat.{CheckedFormat}
 use Rattle.lexical_format.specs.declared.format.Pair.{Pair}
 use Rattle.lexical_format.specs.declared.format.NumberFormat.{NumberFormat}
 use Rattle.lexical_format.specs.declared.options.Options.{Options}
-use Rattle.lexical_format.specs.Format.{pair, writingFormat, settled}
+use Rattle.lexical_format.specs.Format.{pair, writingFormat, settled, checkedFormat}
 use Rattle.lexical_text.specs.declared.layout.Layout.{Layout}
 use Rattle.lexical_text.specs.declared.layout.Layout.the-variants.{Scientific, Negative, Positive}
 use Rattle.lexical_write_float.specs.declared.plan.Digits.{Digits}
@@ -94,6 +94,12 @@ signText negative plus = cond negative (45 ∷ []) (cond plus (43 ∷ []) [])
 unfoldable pub powerText : ℕ → Bool → Bool → ℕ → ℕ → List ℕ
 powerText mark negative plus radix n = (mark ∷ []) ++ (signText negative plus ++ numeral radix n)
 
+-- only the scientific layout has one
+abbrev pub tailText : Layout → ℕ → Bool → Bool → ℕ → ℕ → List ℕ
+tailText Scientific mark negative plus radix n = powerText mark negative plus radix n
+tailText Negative mark negative plus radix n = []
+tailText Positive mark negative plus radix n = []
+
 -- ---- bytes put into a buffer
 -- a text stands in the bytes from a place on, and all else is as it was
 unfoldable pub put : List ℕ → ℕ → List ℕ → List ℕ
@@ -113,6 +119,10 @@ abbrev pub partsText : NumberFormat → Options → CheckedFormat → Parts → 
 partsText F o checked (parts.Plain v) = done (magnitudeText F o checked v)
 partsText F o checked (parts.Negative v) = refused 7 0
 partsText F o checked parts.Special = refused 7 0
+
+-- and in any format, whose refusals come first
+abbrev pub askedByParts : NumberFormat → Options → Parts → Answer (List ℕ)
+askedByParts F o parts = andThen (checkedFormat F o) (λ checked. partsText F o checked parts)
 
 -- parts of a float: what they say of one that is written
 abbrev pub OfFloat : Parts → Type 0

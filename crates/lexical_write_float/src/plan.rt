@@ -1,13 +1,21 @@
 // A text as a run of pieces: digits of D, zeros, a point, zeros, the other digits of D, zeros. Each layout is such a plan, so that one function measures a text and one writes it.
 ghost use mathlib.Core.Path.{_≡_};
-ghost use mathlib.Core.List.{List};
-ghost use Prim.Native.Nat.{ℕ, _+_, _≤_};
+ghost use mathlib.Core.Bool.{true};
+ghost use mathlib.Core.List.{List, _++_};
+ghost use Prim.Native.Nat.{ℕ, _+_, _≤_, _<_};
 ghost use lib.ListN.{length};
 ghost use Rattle.lexical_util.specs.Answer.{done, written, held, ofWritten};
-ghost use Rattle.lexical_write_float.specs.Code.{Puts, Counted, digitsOf, Small, fractionText, planText};
+ghost use Rattle.lexical_util.specs.Digit.{isRadix};
+ghost use Rattle.lexical_write_float.specs.Code.{Puts, Counted, digitsOf, Small, fractionText, planText, tailText};
 use crate::pieces::put_byte;
 use crate::pieces::put_digits;
 use crate::pieces::put_zeros;
+use crate::shared::exponent_length;
+use crate::shared::write_exponent;
+use lexical_format::NumberFormat;
+use lexical_format::Options;
+use lexical_text::Layout;
+use lexical_util::BaseExponent;
 use lexical_util::Refusal;
 use lexical_util::Written;
 
@@ -72,19 +80,39 @@ pub(crate) fn put_plan(buffer: &mut [u8], digits: Digits, plan: Plan, point: u8)
     put_fraction(buffer, fraction, digits, plan, point)
 }
 
-// The text of a plan, or refusal 8, which leaves every byte as it was.
-pub(crate) fn write_plan(digits: Digits, plan: Plan, point: u8, buffer: &mut [u8]) -> Written
-    requires { ⌜ Counted digits × Small (digits .count) plan ⌝ }
-    ensures { λ r. ⌜ ofWritten r ≡ written (done (planText point plan (digitsOf digits))) (now (buffer .entry)) ⌝ }
-    ensures { λ _. ⌜ now (buffer .exit) ≡ held (done (planText point plan (digitsOf digits))) (now (buffer .entry)) ⌝ }
+// A planned text, and the exponent where the layout has one; or refusal 8, which leaves every byte as it was.
+pub(crate) fn write_plan(
+    digits: Digits,
+    plan: Plan,
+    layout: Layout,
+    exponent: BaseExponent,
+    format: NumberFormat,
+    options: Options,
+    buffer: &mut [u8],
+) -> Written
+    requires { ⌜ Counted digits × Small (digits .count) plan × (isRadix (format .«exponent_radix») ≡ true) × (exponent .1 < 8192) ⌝ }
+    ensures { λ r. ⌜ ofWritten r ≡ written (done (planText (options .«decimal_point») plan (digitsOf digits) ++ tailText layout (options .exponent) (exponent .0) (format .«required_exponent_sign») (format .«exponent_radix») (exponent .1))) (now (buffer .entry)) ⌝ }
+    ensures { λ _. ⌜ now (buffer .exit) ≡ held (done (planText (options .«decimal_point») plan (digitsOf digits) ++ tailText layout (options .exponent) (exponent .0) (format .«required_exponent_sign») (format .«exponent_radix») (exponent .1))) (now (buffer .entry)) ⌝ }
 {
-    let length = plan_length(digits.count, plan);
+    let plus = format.required_exponent_sign;
+    let radix = format.exponent_radix;
+    let tail = exponent_length(layout, exponent, plus, radix);
+    let length = plan_length(digits.count, plan) + tail;
     if length > buffer.len() {
         return Written::Refused(Refusal {
             number: 8,
             place: 0,
         });
     }
-    put_plan(buffer, digits, plan, point);
+    let mark = put_plan(buffer, digits, plan, options.decimal_point);
+    write_exponent(
+        buffer,
+        mark,
+        layout,
+        options.exponent,
+        exponent,
+        plus,
+        radix,
+    );
     Written::Length(length)
 }

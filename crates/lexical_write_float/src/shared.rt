@@ -7,7 +7,7 @@ ghost use Rattle.lexical_util.specs.Digit.{isRadix};
 ghost use Rattle.lexical_text.specs.Text.{isScientific, layoutOf};
 ghost use Rattle.lexical_format.specs.declared.options.Options.{Options};
 ghost use Rattle.lexical_format.specs.Format.{lowBreak, highBreak};
-ghost use Rattle.lexical_write_float.specs.Code.{Puts, signText, powerText};
+ghost use Rattle.lexical_write_float.specs.Code.{Puts, signText, tailText};
 use crate::pieces::put_byte;
 use crate::pieces::put_integer;
 use lexical_format::CheckedFormat;
@@ -81,28 +81,46 @@ fn sign_length(negative: bool, plus: bool) -> usize
     0
 }
 
-// The length of an exponent's text, whatever the mark.
-pub(crate) fn exponent_length(exponent: BaseExponent, plus: bool, radix: u32) -> usize
+// The length of an exponent's text, whatever the mark; only the scientific layout has one.
+pub(crate) fn exponent_length(
+    layout: Layout,
+    exponent: BaseExponent,
+    plus: bool,
+    radix: u32,
+) -> usize
     requires { ⌜ (isRadix radix ≡ true) × (exponent .1 < 8192) ⌝ }
-    ensures { λ r. ⌜ ((mark : ℕ) → r ≡ length (powerText mark (exponent .0) plus radix (exponent .1))) × (r ≤ 20) ⌝ }
+    ensures { λ r. ⌜ ((mark : ℕ) → r ≡ length (tailText layout mark (exponent .0) plus radix (exponent .1))) × (r ≤ 20) ⌝ }
 {
-    let sign = sign_length(exponent.0, plus);
-    1 + sign + lexical_write_integer::digit_count(exponent.1, radix)
+    match layout {
+        Layout::Scientific => {
+            let sign = sign_length(exponent.0, plus);
+            1 + sign + lexical_write_integer::digit_count(exponent.1, radix)
+        }
+        Layout::Negative => 0,
+        Layout::Positive => 0,
+    }
 }
 
-// Mark, sign, and the magnitude in the exponent's radix.
+// Mark, sign, and the magnitude in the exponent's radix, in the scientific layout.
 pub(crate) fn write_exponent(
     buffer: &mut [u8],
     at: usize,
+    layout: Layout,
     mark: u8,
     exponent: BaseExponent,
     plus: bool,
     radix: u32,
 ) -> usize
-    requires { ⌜ (isRadix radix ≡ true) × (at + length (powerText mark (exponent .0) plus radix (exponent .1)) ≤ length (now buffer)) ⌝ }
-    ensures { λ r. ⌜ Puts (now (buffer .entry)) at (powerText mark (exponent .0) plus radix (exponent .1)) r (now (buffer .exit)) ⌝ }
+    requires { ⌜ (isRadix radix ≡ true) × (at + length (tailText layout mark (exponent .0) plus radix (exponent .1)) ≤ length (now buffer)) ⌝ }
+    ensures { λ r. ⌜ Puts (now (buffer .entry)) at (tailText layout mark (exponent .0) plus radix (exponent .1)) r (now (buffer .exit)) ⌝ }
 {
-    let sign = put_byte(buffer, at, mark);
-    let magnitude = write_exponent_sign(buffer, sign, exponent.0, plus);
-    put_integer(buffer, magnitude, exponent.1, radix)
+    match layout {
+        Layout::Scientific => {
+            let sign = put_byte(buffer, at, mark);
+            let magnitude = write_exponent_sign(buffer, sign, exponent.0, plus);
+            put_integer(buffer, magnitude, exponent.1, radix)
+        }
+        Layout::Negative => at,
+        Layout::Positive => at,
+    }
 }

@@ -10,7 +10,7 @@ ghost use Rattle.lexical_format.specs.declared.options.Options.{Options};
 ghost use Rattle.lexical_text.specs.Value.{exactDigits};
 ghost use Rattle.lexical_text.specs.Text.{point, least, digitsSoFar, text};
 ghost use Rattle.lexical_text.specs.Range.{Ranged};
-ghost use Rattle.lexical_write_float.specs.Code.{FloatParts, Passed, rowOf, Counted, digitsOf, IsPlan, bodyText, magnitudeText, partsText, OfFloat};
+ghost use Rattle.lexical_write_float.specs.Code.{FloatParts, Passed, rowOf, Counted, digitsOf, IsPlan, bodyText, magnitudeText, partsText, askedByParts, OfFloat};
 ghost use Rattle.lexical_text.specs.Write.{writeText, NoLonger, NeverRefused};
 use crate::binary::calculate_shl;
 use crate::binary::normalized;
@@ -18,7 +18,6 @@ use crate::binary::truncate_and_round;
 use crate::binary::write_float_negative_exponent;
 use crate::binary::write_float_positive_exponent;
 use crate::hex::write_float_scientific;
-use crate::hex::write_with_exponent;
 use crate::plan::Digits;
 use crate::plan::Plan;
 use crate::plan::write_plan;
@@ -100,14 +99,8 @@ fn write_value(
     let so_far = digits_so_far(value.mantissa, digits.count);
     let layout = choose_layout(format, checked, s);
     let plan = plan_of(layout, digits.count, p, so_far, format, options);
-    match layout {
-        Layout::Scientific => {
-            let exponent = base_exponent(p, checked.b, checked.c);
-            write_with_exponent(digits, plan, exponent, format, options, buffer)
-        }
-        Layout::Negative => write_plan(digits, plan, options.decimal_point, buffer),
-        Layout::Positive => write_plan(digits, plan, options.decimal_point, buffer),
-    }
+    let exponent = base_exponent(p, checked.b, checked.c);
+    write_plan(digits, plan, layout, exponent, format, options, buffer)
 }
 
 // The text of a finite float with the sign bit clear, by its parts.
@@ -129,8 +122,8 @@ fn write_float(
     write_value(limited, format, options, checked, buffer)
 }
 
-// The text of a float by its parts; 7 where it is not finite, or its sign bit is set.
-fn write_parts(
+// The text of a float by its parts, in a format that passed the check; 7 where it is not finite, or its sign bit is set.
+fn write_checked(
     parts: Parts,
     format: NumberFormat,
     options: Options,
@@ -154,6 +147,18 @@ fn write_parts(
     }
 }
 
+// The same in any format, whose refusals come first. Both widths come here, and from here on nothing is called from two places: the compiler makes one function of it.
+fn write_parts(parts: Parts, format: NumberFormat, options: Options, buffer: &mut [u8]) -> Written
+    requires { ⌜ OfFloat parts ⌝ }
+    ensures { λ r. ⌜ ofWritten r ≡ written (askedByParts format options parts) (now (buffer .entry)) ⌝ }
+    ensures { λ _. ⌜ now (buffer .exit) ≡ held (askedByParts format options parts) (now (buffer .entry)) ⌝ }
+{
+    match lexical_format::check(format, options) {
+        WritingCheck::Passed(checked) => write_checked(parts, format, options, checked, buffer),
+        WritingCheck::Refused(refusal) => Written::Refused(refusal),
+    }
+}
+
 // The text of a float under a format, or a refusal, which leaves every byte as it was.
 pub fn write_f64(x: f64, format: NumberFormat, options: Options, buffer: &mut [u8]) -> Written
     ensures { λ r. ⌜ ofWritten r ≡ written (writeText format options x) (now (buffer .entry)) ⌝ }
@@ -161,12 +166,7 @@ pub fn write_f64(x: f64, format: NumberFormat, options: Options, buffer: &mut [u
     ensures longest { λ r. ⌜ NoLonger (ofWritten r) ⌝ }
     ensures served { λ r. ⌜ NeverRefused format options x (now (buffer .entry)) (ofWritten r) ⌝ }
 {
-    match lexical_format::check(format, options) {
-        WritingCheck::Passed(checked) => {
-            write_parts(lexical_util::parts_f64(x), format, options, checked, buffer)
-        }
-        WritingCheck::Refused(refusal) => Written::Refused(refusal),
-    }
+    write_parts(lexical_util::parts_f64(x), format, options, buffer)
 }
 
 pub fn write_f32(x: f32, format: NumberFormat, options: Options, buffer: &mut [u8]) -> Written
@@ -175,10 +175,5 @@ pub fn write_f32(x: f32, format: NumberFormat, options: Options, buffer: &mut [u
     ensures longest { λ r. ⌜ NoLonger (ofWritten r) ⌝ }
     ensures served { λ r. ⌜ NeverRefused format options x (now (buffer .entry)) (ofWritten r) ⌝ }
 {
-    match lexical_format::check(format, options) {
-        WritingCheck::Passed(checked) => {
-            write_parts(lexical_util::parts_f32(x), format, options, checked, buffer)
-        }
-        WritingCheck::Refused(refusal) => Written::Refused(refusal),
-    }
+    write_parts(lexical_util::parts_f32(x), format, options, buffer)
 }

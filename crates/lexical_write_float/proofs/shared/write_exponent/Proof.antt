@@ -1,8 +1,8 @@
--- `lexical_write_float::shared::write_exponent` meets its contract: mark, sign and digits, each where the one before it ended. Assumes nothing.
+-- `lexical_write_float::shared::write_exponent` meets its contract: mark, sign and digits, each where the one before it ended, and nothing where the layout has no exponent. Assumes nothing.
 use native.Mathlib.Omega.{arith}
 use Rattle.lexical_write_float.specs.Code.{powerText, signText}
-use Rattle.lexical_write_float.proofs.PowerLaws.{power-length}
-use Rattle.lexical_write_float.proofs.PutLaws.{puts-more}
+use Rattle.lexical_write_float.proofs.PowerLaws.{tail-length}
+use Rattle.lexical_write_float.proofs.PutLaws.{puts-more, puts-none}
 use Prim.Native.Nat.{_+_, _≤_}
 use lib.ListN.{length}
 use Rattle.lexical_write_integer.specs.Digits.{numeral}
@@ -10,23 +10,33 @@ use borrow.Author.Needs.{needs}
 use Rattle.lexical_write_float.proofs.shared.write_exponent.Statement.{statement}
 use Rattle.lexical_write_float.proofs.shared.write_exponent.Tie as tie
 
-room : (c : tie.Start) → c .args .at + (1 + length (signText (c .args .exponent .0) (c .args .plus)) + length (numeral (c .args .radix) (c .args .exponent .1))) ≤ length (c .args .buffer .now)
-room c = let a = c .args in omega (arith, c .pre .1, power-length (a .mark) (a .exponent .0) (a .plus) (a .radix) (a .exponent .1))
+abbrev start : tie.After-enum-told → tie.Start
+start c = c .before .before .before
+
+room : (c : tie.After-enum-told) → let a = start c .args in a .at + (1 + length (signText (a .exponent .0) (a .plus)) + length (numeral (a .radix) (a .exponent .1))) ≤ length (a .buffer .now)
+room c = let a = start c .args in omega (arith, start c .pre .1, tail-length (a .layout) (a .mark) (a .exponent .0) (a .plus) (a .radix) (a .exponent .1) (c .enum-told .given .1))
+
+enum-told : tie.Need-enum-told
+enum-told c = search needs
 
 put-byte-requires : tie.Need-put-byte-requires
-put-byte-requires c κs = omega (arith, room (c .before .before))
+put-byte-requires c κs = omega (arith, room (c .before))
 
 write-exponent-sign-requires : tie.Need-write-exponent-sign-requires
-write-exponent-sign-requires c κs =
-    let p = c .before .before .before in
-    omega (arith, room (p .before .before .before), p .put-byte .ensures .next-is)
+write-exponent-sign-requires c κs = let p = c .before .before .before in omega (arith, room (p .before .before), p .put-byte .ensures .next-is)
 
 put-integer-requires : tie.Need-put-integer-requires
 put-integer-requires c κs =
     let g = c .before .before .before in
     let p = g .before .before .before .before in
-    let s = p .before .before .before in
-    (s .pre .0, omega (arith, room s, p .put-byte .ensures .next-is, g .write-exponent-sign .ensures .next-is))
+    let t = p .before .before in
+    (start t .pre .0, omega (arith, room t, p .put-byte .ensures .next-is, g .write-exponent-sign .ensures .next-is))
+
+enum-told-2 : tie.Need-enum-told-2
+enum-told-2 c = search needs
+
+enum-told-3 : tie.Need-enum-told-3
+enum-told-3 c = search needs
 
 same-length : tie.Need-same-length
 same-length c = search needs
@@ -37,15 +47,27 @@ returns c =
     let i = c .before .before in
     let g = i .before .before .before .before in
     let p = g .before .before .before .before in
-    let s = p .before .before .before in
-    puts-more _ _ _ (omega (arith, room s)) (puts-more _ _ _ (omega (arith, room s)) (p .put-byte .ensures) (g .write-exponent-sign .ensures)) (i .put-integer .ensures)
+    let t = p .before .before in
+    rw (t .enum-told .given .1)
+    (puts-more _ _ _ (omega (arith, room t)) (puts-more _ _ _ (omega (arith, room t)) (p .put-byte .ensures) (g .write-exponent-sign .ensures)) (i .put-integer .ensures))
+
+returns-2 : tie.Need-returns-2
+returns-2 c = rw (c .enum-told2 .given .1) (puts-none _ _)
+
+returns-3 : tie.Need-returns-3
+returns-3 c = rw (c .enum-told3 .given .1) (puts-none _ _)
 
 pub write-exponent-spec : {M : Type 1} → statement M
 write-exponent-spec =
     tie.close
     (tie.spec
+    enum-told
     put-byte-requires
     write-exponent-sign-requires
     put-integer-requires
+    enum-told-2
+    enum-told-3
     same-length
-    returns)
+    returns
+    returns-2
+    returns-3)

@@ -1,16 +1,15 @@
 -- `lexical_write_float::write::write_value` meets its contract: D, p, the digits so far and the layout are those of the definition, so the planned text is its text. Assumes nothing.
 use Prim.Native.Nat.{ℕ, _≤_}
-use mathlib.Core.Path.{_≡_, sym, ap, ap₂, _∙_}
+use mathlib.Core.Path.{_≡_, sym, ap, _∙_}
 use mathlib.Core.List.{List, _++_}
 use lib.IntN.{natAbs}
 use Rattle.lexical_util.specs.Answer.{done, written, held}
 use Rattle.lexical_util.specs.Num.{scale, place}
-use Rattle.lexical_text.specs.Text.{point, exponentText, layoutOf, text}
-use Rattle.lexical_write_float.specs.Code.{rowOf, digitsOf, planText, bodyText, powerText}
+use Rattle.lexical_text.specs.Text.{point, layoutOf, text}
+use Rattle.lexical_write_float.specs.Code.{rowOf, digitsOf, planText, bodyText, tailText}
 use Rattle.lexical_text.proofs.RangeLaws.{place-near}
 use Rattle.lexical_text.proofs.LengthLaws.{power-few}
-use Rattle.lexical_write_float.proofs.PowerLaws.{power-is}
-use Rattle.lexical_write_float.proofs.TextLaws.{Known, known, counted-some, IsLaid, laid-scientific, laid-negative, laid-positive}
+use Rattle.lexical_write_float.proofs.TextLaws.{Known, known, counted-some, IsLaid, laid-text}
 use borrow.Author.Needs.{needs}
 use Rattle.lexical_write_float.proofs.write.write_value.Statement.{statement}
 use Rattle.lexical_write_float.proofs.write.write_value.Tie as tie
@@ -73,31 +72,16 @@ plan-of-requires c κs =
     let s = start (d .before) in
     (counted-some _ (d .digits-of .ensures .1), near (d .before), format-known s .few-least)
 
-enum-told : tie.Need-enum-told
-enum-told c = search needs
-
 base-exponent-requires : tie.Need-base-exponent-requires
 base-exponent-requires c κs = tt
 
-write-with-exponent-requires : tie.Need-write-with-exponent-requires
-write-with-exponent-requires c κs =
+write-plan-requires : tie.Need-write-plan-requires
+write-plan-requires c κs =
     let b = c .before in
-    let p = b .before .before .before in
+    let p = b .before in
     let d = p .before .before .before in
     let s = start (d .before) in
     (d .digits-of .ensures .1, p .plan-of .ensures .small, format-known s .power-radix, rw (b .base-exponent .ensures .1 .0) (power-few (s .args .checked .b) (s .args .checked .c) (d .before .digit-exponent .result .0) (format-known s .few-bits) (near (d .before))))
-
-enum-told-2 : tie.Need-enum-told-2
-enum-told-2 c = search needs
-
-write-plan-requires : tie.Need-write-plan-requires
-write-plan-requires c κs = let p = c .before .before .before in (p .before .before .before .digits-of .ensures .1, p .plan-of .ensures .small)
-
-enum-told-3 : tie.Need-enum-told-3
-enum-told-3 c = search needs
-
-write-plan-requires-2 : tie.Need-write-plan-requires-2
-write-plan-requires-2 c κs = let p = c .before .before .before in (p .before .before .before .digits-of .ensures .1, p .plan-of .ensures .small)
 
 same-length : tie.Need-same-length
 same-length c = search needs
@@ -106,36 +90,13 @@ returns : tie.Need-returns
 returns c =
     let w = c .before .before in
     let b = w .before .before in
-    let p = b .before .before .before in
+    let p = b .before in
     let d = p .before .before .before in
     let s = start (d .before) in
     let a = s .args in
-    let place = d .before .digit-exponent .result .0 in
-    let tail : powerText (a .options .exponent) (b .base-exponent .result .0) (a .format .«required_exponent_sign») (a .format .«exponent_radix») (b .base-exponent .result .1) ≡ exponentText (a .format) (a .options) (rowOf (a .checked)) place = rw (b .base-exponent .ensures .0, b .base-exponent .ensures .1 .0) (power-is (a .format) (a .options) (rowOf (a .checked)) place) in
-    let same = ap₂ {A = List ℕ} {B = List ℕ} {C = List ℕ} (λ x y. x ++ y) (planned p) tail ∙ laid-scientific _ _ _ _ _ _ _ _ _ (laid p) (b .before .enum-told .given .1) in
-    (w .write-with-exponent .ensures .0 ∙ ap (λ (t : List ℕ). written (done t) (a .buffer .now)) same, w .write-with-exponent .ensures .1 ∙ ap (λ (t : List ℕ). held (done t) (a .buffer .now)) same)
-
-same-length-2 : tie.Need-same-length-2
-same-length-2 c = search needs
-
-returns-2 : tie.Need-returns-2
-returns-2 c =
-    let w = c .before .before in
-    let p = w .before .before .before .before in
-    let s = start (p .before .before .before .before) in
-    let same : body p ≡ whole s = planned p ∙ laid-negative _ _ _ _ _ _ _ _ _ (laid p) (w .before .before .enum-told2 .given .1) in
-    (w .write-plan .ensures .0 ∙ ap (λ (t : List ℕ). written (done t) (s .args .buffer .now)) same, w .write-plan .ensures .1 ∙ ap (λ (t : List ℕ). held (done t) (s .args .buffer .now)) same)
-
-same-length-3 : tie.Need-same-length-3
-same-length-3 c = search needs
-
-returns-3 : tie.Need-returns-3
-returns-3 c =
-    let w = c .before .before in
-    let p = w .before .before .before .before in
-    let s = start (p .before .before .before .before) in
-    let same : body p ≡ whole s = planned p ∙ laid-positive _ _ _ _ _ _ _ _ _ (laid p) (w .before .before .enum-told3 .given .1) in
-    (w .write-plan2 .ensures .0 ∙ ap (λ (t : List ℕ). written (done t) (s .args .buffer .now)) same, w .write-plan2 .ensures .1 ∙ ap (λ (t : List ℕ). held (done t) (s .args .buffer .now)) same)
+    let tail : List ℕ = tailText (p .before .choose-layout .result) (a .options .exponent) (b .base-exponent .result .0) (a .format .«required_exponent_sign») (a .format .«exponent_radix») (b .base-exponent .result .1) in
+    let same : body p ++ tail ≡ whole s = ap (λ (t : List ℕ). t ++ tail) (planned p) ∙ laid-text _ _ _ _ _ _ _ _ _ (laid p) _ _ (b .base-exponent .ensures .0) (b .base-exponent .ensures .1 .0) in
+    (w .write-plan .ensures .0 ∙ ap (λ (t : List ℕ). written (done t) (a .buffer .now)) same, w .write-plan .ensures .1 ∙ ap (λ (t : List ℕ). held (done t) (a .buffer .now)) same)
 
 pub write-value-spec : {M : Type 1} → statement M
 write-value-spec =
@@ -147,16 +108,7 @@ write-value-spec =
     digits-so-far-requires
     choose-layout-requires
     plan-of-requires
-    enum-told
     base-exponent-requires
-    write-with-exponent-requires
-    enum-told-2
     write-plan-requires
-    enum-told-3
-    write-plan-requires-2
     same-length
-    returns
-    same-length-2
-    returns-2
-    same-length-3
-    returns-3)
+    returns)
