@@ -1,11 +1,11 @@
 // Floats at the edges of each width: their parts, and the float made of these again.
 use crate::print;
-use lexical_util::MadeF32;
-use lexical_util::MadeF64;
+use lexical_float::MadeF32;
+use lexical_float::MadeF64;
+use lexical_float::Parts;
+use lexical_float::f32_from_parts;
+use lexical_float::f64_from_parts;
 use lexical_util::Magnitude;
-use lexical_util::Parts;
-use lexical_util::f32_from_parts;
-use lexical_util::f64_from_parts;
 
 // The float with these bits, any NaN where they are a NaN's.
 pub(crate) fn f64_of(bits: u64) -> f64 {
@@ -98,14 +98,14 @@ fn f64_line(bits: u64) {
     print::text(b"f64 ");
     print::hex(bits);
     print::text(b": ");
-    print_parts(true, lexical_util::parts_f64(f64_of(bits)));
+    print_parts(true, lexical_float::parts_f64(f64_of(bits)));
 }
 
 fn f32_line(bits: u32) {
     print::text(b"f32 ");
     print::hex(bits as u64);
     print::text(b": ");
-    print_parts(false, lexical_util::parts_f32(f32_of(bits)));
+    print_parts(false, lexical_float::parts_f32(f32_of(bits)));
 }
 
 fn each_made(wide: bool, mantissa: u64, exponent: i16) {

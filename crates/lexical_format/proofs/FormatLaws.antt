@@ -11,7 +11,7 @@ use lib.IntN.{ℤ, natAbs}
 use lib.Ieee.Fits.{and-l, and-r}
 use Rattle.lexical_util.specs.Answer.{done, refused, Check, checked}
 use Rattle.lexical_util.specs.Digit.{isDigit, isRadix}
-use Rattle.lexical_util.specs.Num.{power}
+use Rattle.lexical_util.specs.Exponent.{power}
 use Rattle.lexical_util.proofs.AnswerLaws.{refused-done, Passed, passed}
 use Rattle.lexical_util.proofs.ExponentLaws.{power-exact}
 use Rattle.lexical_format.specs.declared.format.Pair.{Pair}

@@ -17,7 +17,7 @@ use lib.Ieee.Positive.{num, den, den-pos}
 use lib.Ieee.Scale.{grid, overflow}
 use Rattle.lexical_read_float.specs.Round.{largest, tooLarge, apart}
 use Rattle.lexical_read_float.proofs.Rounded.{lower, rounded, rounded-least}
-use Rattle.lexical_util.proofs.FloatLaws.{same-fraction, own-fraction, units}
+use Rattle.lexical_float.proofs.FloatLaws.{same-fraction, own-fraction, units}
 
 -- ---- the edge, a whole number: 2 ^ 1024 - 2 ^ 970, and 2 ^ 128 - 2 ^ 103
 abbrev pub edge : Format → ℕ

@@ -11,7 +11,7 @@ use lib.Ieee.Digits.{size-le}
 use lib.Ieee.Exact.{HasValue}
 use lib.Ieee.Fits.{two, two-le-pos}
 use Rattle.lexical_util.proofs.PowerLaws.{size-more}
-use Rattle.lexical_util.proofs.FloatLaws.{bits-of-value}
+use Rattle.lexical_float.proofs.FloatLaws.{bits-of-value}
 
 -- ---- the leading p digits of z * 2 ^ k
 dropped : (p z k : ℕ) → 0 < p → z < 2 ^ p → (0 < k → 2 ^ (p - 1) ≤ z) → size (z * 2 ^ k) - p ≡ k

@@ -17,7 +17,7 @@ use lib.Ieee.Positive.{num, den, den-pos}
 use lib.Ieee.Scale.{grid, finite}
 use Rattle.lexical_read_float.specs.Round.{tooLarge, apart, distance, Nearest}
 use Rattle.lexical_read_float.proofs.Rounded.{Rounded, rounded, kept-range, rounded-least, Tie, rounded-tie}
-use Rattle.lexical_util.proofs.FloatLaws.{same-fraction, OwnFraction, own-fraction, has-value, units, value-unique}
+use Rattle.lexical_float.proofs.FloatLaws.{same-fraction, OwnFraction, own-fraction, has-value, units, value-unique}
 use Rattle.lexical_read_float.proofs.LastBit.{last-bit}
 use Rattle.lexical_read_float.proofs.Largest.{edge, below-edge, below-overflow, round-value}
 

@@ -7,7 +7,7 @@ use lib.Dec.{ltb}
 use lib.IntN.{ℤ, pos, negsuc, natAbs}
 use lib.ListN.{length, take, drop, replicate, length-map}
 use Rattle.lexical_util.specs.Digit.{digitByte}
-use Rattle.lexical_util.specs.Num.{scale, place}
+use Rattle.lexical_util.specs.Exponent.{scale, place}
 use Rattle.lexical_write_integer.specs.Digits.{digits, numeral}
 use Rattle.lexical_write_integer.proofs.DigitsLaws.{map-append}
 use Rattle.lexical_format.specs.declared.format.Pair.{Pair}

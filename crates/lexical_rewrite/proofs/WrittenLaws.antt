@@ -12,7 +12,7 @@ use lib.ListN.{length, take, drop}
 use lib.Ieee.{Float, nan, inf, fin, Format, fits}
 use lib.Ieee.Exact.{HasValue}
 use Rattle.lexical_util.specs.Answer.{Answer, done, refused, andThen}
-use Rattle.lexical_util.specs.Num.{scale, place, power}
+use Rattle.lexical_util.specs.Exponent.{scale, place, power}
 use Rattle.lexical_util.proofs.AnswerLaws.{refused-done, done-same}
 use Rattle.lexical_util.proofs.RadixLaws.{radix-bounds}
 use Rattle.lexical_write_integer.proofs.DigitsLaws.{digits-value}
@@ -35,7 +35,7 @@ use Rattle.lexical_read_float.specs.Parse.{withTail, shapeOf}
 use Rattle.lexical_read_float.specs.Read.{grammarOf, magnitude, numerator, denominator, floatOf, exponentTooLarge, exponentPlace, valueOf, readText, readFloat}
 use Rattle.lexical_read_float.proofs.Largest.{not-too-large}
 use Rattle.lexical_read_float.proofs.ReadLaws.{printed-is-read, denominator-pos}
-use Rattle.lexical_util.proofs.FloatLaws.{round-of-value}
+use Rattle.lexical_float.proofs.FloatLaws.{round-of-value}
 use Rattle.lexical_rewrite.specs.Claims.{ReadAsShape, WrittenIsShaped, Denotes, WrittenIsExact, WrittenIsReadBack}
 use Rattle.lexical_rewrite.proofs.TextShape.{tailOf, pad, noughts, digitsIn, scientificShape, negativeShape, positiveShape, shapeIn, shapeOfText, print-text}
 use Rattle.lexical_rewrite.proofs.WellFormedText.{formed-text}

@@ -10,7 +10,7 @@ use lib.Pow.{pow-add, pow-pos, pow-mono}
 use lib.Ieee.{fin, Format, binary32, binary64, prec, emax, low, up, down, size, fits}
 use lib.Ieee.Digits.{size-lt, size-le}
 use lib.Ieee.Fits.{and-l, and-r}
-use Rattle.lexical_util.specs.Num.{scale, place}
+use Rattle.lexical_util.specs.Exponent.{scale, place}
 use Rattle.lexical_util.proofs.ExponentLaws.{scale-is}
 use Rattle.lexical_util.proofs.PowerLaws.{power-le, size-pos}
 use Rattle.lexical_format.specs.declared.options.RoundMode.{RoundMode}

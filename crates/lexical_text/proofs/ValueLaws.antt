@@ -10,7 +10,7 @@ use lib.ListN.{length, getD}
 use lib.Pow.{pow-add, pow-pos, shl-lt}
 use lib.Ieee.{size}
 use lib.Ieee.Digits.{size-lt, size-le, size-reaches}
-use Rattle.lexical_util.specs.Num.{scale, place}
+use Rattle.lexical_util.specs.Exponent.{scale, place}
 use Rattle.lexical_util.proofs.ExponentLaws.{scale-is}
 use Rattle.lexical_util.proofs.PowerLaws.{size-more, size-pos}
 use Rattle.lexical_write_integer.specs.Digits.{digits, numeral}

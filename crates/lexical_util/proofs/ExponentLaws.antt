@@ -17,7 +17,7 @@ use lib.Ieee.Digits.{size-lt, size-le, size-reaches}
 use mir.Syntax.{w16, w32, w64}
 use mir.Val.{Fits, SFits, toZ, ofZ}
 use mir.Facts.{toZ-ofZ, toZ-pos}
-use Rattle.lexical_util.specs.Num.{scale, LeadingBit, place, isNegative, power}
+use Rattle.lexical_util.specs.Exponent.{scale, LeadingBit, place, isNegative, power}
 use Rattle.lexical_util.proofs.DifferenceLaws.{by-larger, widened}
 use Rattle.lexical_util.proofs.PowerLaws.{size-pos, leading-size}
 

@@ -1,11 +1,6 @@
 pub mod AnswerLaws
 pub mod DifferenceLaws
 pub mod DigitLaws
-pub mod EncodingLaws
 pub mod ExponentLaws
-pub mod FloatLaws
-pub mod PartsLaws
-pub mod PatternLaws
 pub mod PowerLaws
 pub mod RadixLaws
-pub mod Worked

@@ -1,9 +1,4 @@
 pub mod Answer
 pub mod Digit
-pub mod Num
-pub mod Parts
-pub mod Encoding
-pub mod Pattern
-pub mod Claims
+pub mod Exponent
 pub mod Examples
-pub mod PartsExamples

@@ -4,8 +4,13 @@ ghost use mathlib.Core.Path.{_≡_};
 ghost use Prim.Native.Nat.{_+_, _-_, _*_, _/_, _^_, _≤_, _<_};
 ghost use lib.IntN.{pos, natAbs, _+ℤ_, _*ℤ_};
 ghost use lib.Signed.{_≤ℤ_, _<ℤ_};
-ghost use Rattle.lexical_util.specs.Num.{significantBits, scale, LeadingBit, place, isNegative, power};
-use crate::num::Magnitude;
+ghost use Rattle.lexical_util.specs.Exponent.{significantBits, scale, LeadingBit, place, isNegative, power};
+
+// A value mantissa * 2^exponent. Every float's exponent fits an i16.
+pub struct Magnitude {
+    pub mantissa: u64,
+    pub exponent: i16,
+}
 
 // In bits: s, or any exponent of two.
 pub struct BitExponent(pub i32);

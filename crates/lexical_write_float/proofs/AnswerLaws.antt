@@ -11,11 +11,12 @@ use lib.Dec.{T, leb, eqb, lit≤}
 use lib.IntN.{ℤ}
 use lib.ListN.{length}
 use lib.Ieee.{Float, nan, inf, fin, Format, binary32, binary64, low, hid, ones, minus, toBits, fits}
-use Rattle.lexical_util.specs.declared.num.Parts.{Parts}
-use Rattle.lexical_util.specs.declared.num.Parts.the-variants.{Negative}
+use Rattle.lexical_float.specs.declared.num.Parts.{Parts}
+use Rattle.lexical_float.specs.declared.num.Parts.the-variants.{Negative}
 use Rattle.lexical_util.specs.Answer.{Answer, done, refused, andThen, written, held}
-use Rattle.lexical_util.specs.Num.{biased, mantissa, exponent, scale, place}
-use Rattle.lexical_util.specs.Parts.{partsOf, IsValue}
+use Rattle.lexical_util.specs.Exponent.{scale, place}
+use Rattle.lexical_float.specs.Fields.{biased, mantissa, exponent}
+use Rattle.lexical_float.specs.Parts.{partsOf, IsValue}
 use Rattle.lexical_util.proofs.AnswerLaws.{refused-done, done-same}
 use Rattle.lexical_util.proofs.DifferenceLaws.{minus-ge, minus-lt}
 use Rattle.lexical_format.specs.declared.checks.CheckedFormat.{CheckedFormat}

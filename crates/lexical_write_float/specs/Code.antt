@@ -8,9 +8,9 @@ use lib.IntN.{ℤ, natAbs}
 use lib.ListN.{length, take, drop}
 use lib.Ieee.{Format, fin, fits}
 use Rattle.lexical_util.specs.Answer.{Answer, done, refused, andThen}
-use Rattle.lexical_util.specs.declared.num.Magnitude.{Magnitude}
-use Rattle.lexical_util.specs.declared.num.Parts.{Parts}
-use Rattle.lexical_util.specs.declared.num.Parts.the-variants as parts
+use Rattle.lexical_util.specs.declared.exponent.Magnitude.{Magnitude}
+use Rattle.lexical_float.specs.declared.num.Parts.{Parts}
+use Rattle.lexical_float.specs.declared.num.Parts.the-variants as parts
 use Rattle.lexical_write_integer.specs.Digits.{numeral}
 use Rattle.lexical_format.specs.declared.checks.CheckedFormat.{CheckedFormat}
 use Rattle.lexical_format.specs.declared.format.Pair.{Pair}

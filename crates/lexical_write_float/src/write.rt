@@ -22,6 +22,9 @@ use crate::plan::Digits;
 use crate::plan::Plan;
 use crate::plan::write_plan;
 use crate::shared::choose_layout;
+use lexical_float::Parts;
+use lexical_float::parts_f32;
+use lexical_float::parts_f64;
 use lexical_format::CheckedFormat;
 use lexical_format::NumberFormat;
 use lexical_format::Options;
@@ -29,7 +32,6 @@ use lexical_format::WritingCheck;
 use lexical_text::Layout;
 use lexical_util::DigitExponent;
 use lexical_util::Magnitude;
-use lexical_util::Parts;
 use lexical_util::Refusal;
 use lexical_util::Written;
 use lexical_util::base_exponent;
@@ -166,7 +168,7 @@ pub fn write_f64(x: f64, format: NumberFormat, options: Options, buffer: &mut [u
     ensures longest { λ r. ⌜ NoLonger (ofWritten r) ⌝ }
     ensures served { λ r. ⌜ NeverRefused format options x (now (buffer .entry)) (ofWritten r) ⌝ }
 {
-    write_parts(lexical_util::parts_f64(x), format, options, buffer)
+    write_parts(parts_f64(x), format, options, buffer)
 }
 
 pub fn write_f32(x: f32, format: NumberFormat, options: Options, buffer: &mut [u8]) -> Written
@@ -175,5 +177,5 @@ pub fn write_f32(x: f32, format: NumberFormat, options: Options, buffer: &mut [u
     ensures longest { λ r. ⌜ NoLonger (ofWritten r) ⌝ }
     ensures served { λ r. ⌜ NeverRefused format options x (now (buffer .entry)) (ofWritten r) ⌝ }
 {
-    write_parts(lexical_util::parts_f32(x), format, options, buffer)
+    write_parts(parts_f32(x), format, options, buffer)
 }

@@ -1,6 +1,6 @@
 -- `examples::floats::bits_of_f64` meets its contract: the test leaves no NaN. Assumes nothing.
 use borrow.Author.Needs.{needs}
-use Rattle.lexical_util.proofs.PartsLaws.{no-nan}
+use Rattle.lexical_float.proofs.PartsLaws.{no-nan}
 use Rattle.examples.proofs.floats.bits_of_f64.Statement.{statement}
 use Rattle.examples.proofs.floats.bits_of_f64.Tie as tie
 

@@ -1,7 +1,7 @@
 -- `examples::floats::f64_of` meets its contract: the test leaves no NaN's bits. Assumes nothing.
 use borrow.Author.Needs.{needs}
 use lib.Ieee.{binary64}
-use Rattle.lexical_util.proofs.PartsLaws.{tested-bits}
+use Rattle.lexical_float.proofs.PartsLaws.{tested-bits}
 use Rattle.examples.proofs.floats.f64_of.Statement.{statement}
 use Rattle.examples.proofs.floats.f64_of.Tie as tie
 

@@ -7,7 +7,7 @@ use lib.Signed.{ltZ}
 use mir.Syntax.{w32}
 use mir.Val.{toZ, ofZ}
 use mir.Facts.{toZ-ofZ}
-use Rattle.lexical_util.specs.Num.{isNegative}
+use Rattle.lexical_util.specs.Exponent.{isNegative}
 use Rattle.lexical_util.proofs.ExponentLaws.{sign-is, product-fits, power-none, power-exact}
 use Rattle.lexical_util.proofs.exponent.base_exponent.Statement.{statement}
 use Rattle.lexical_util.proofs.exponent.base_exponent.Tie as tie

@@ -8,7 +8,7 @@ use lib.Signed.{ltZ}
 use mir.Syntax.{w32, w64}
 use mir.Val.{SFits, toZ, ofZ}
 use mir.Facts.{toZ-ofZ, toZ-pos, sfits-widen}
-use Rattle.lexical_util.specs.Num.{place}
+use Rattle.lexical_util.specs.Exponent.{place}
 use Rattle.lexical_util.proofs.ExponentLaws.{place-fits, place-below, place-above, place-none-below, place-none-above, floored}
 use Rattle.lexical_util.proofs.exponent.digit_exponent.Statement.{statement}
 use Rattle.lexical_util.proofs.exponent.digit_exponent.Tie as tie

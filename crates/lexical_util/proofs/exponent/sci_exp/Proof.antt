@@ -8,7 +8,7 @@ use lib.IntN.{ℤ}
 use lib.Ieee.{size}
 use mir.Syntax.{w16}
 use mir.Val.{SFits}
-use Rattle.lexical_util.specs.Num.{scale, LeadingBit}
+use Rattle.lexical_util.specs.Exponent.{scale, LeadingBit}
 use Rattle.lexical_util.proofs.DifferenceLaws.{widened}
 use Rattle.lexical_util.proofs.ExponentLaws.{scale-zero, scale-is, leading-bit, coded-sum-fits, coded-sum-is}
 use Rattle.lexical_util.proofs.PowerLaws.{size-zero}

@@ -9,7 +9,7 @@ use mir.Syntax.{w16}
 use mir.Val.{toZ, ofZ}
 use lib.Ieee.{size}
 use lib.Ieee.Digits.{size-le}
-use Rattle.lexical_util.specs.Num.{scale}
+use Rattle.lexical_util.specs.Exponent.{scale}
 use Rattle.lexical_util.proofs.PowerLaws.{size-pos}
 use Rattle.lexical_text.specs.Value.{normal, modulo}
 use Rattle.lexical_text.specs.Range.{Between}

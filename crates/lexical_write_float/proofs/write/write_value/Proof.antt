@@ -4,7 +4,7 @@ use mathlib.Core.Path.{_≡_, sym, ap, _∙_}
 use mathlib.Core.List.{List, _++_}
 use lib.IntN.{natAbs}
 use Rattle.lexical_util.specs.Answer.{done, written, held}
-use Rattle.lexical_util.specs.Num.{scale, place}
+use Rattle.lexical_util.specs.Exponent.{scale, place}
 use Rattle.lexical_text.specs.Text.{point, layoutOf, text}
 use Rattle.lexical_write_float.specs.Code.{rowOf, digitsOf, planText, bodyText, tailText}
 use Rattle.lexical_text.proofs.RangeLaws.{place-near}

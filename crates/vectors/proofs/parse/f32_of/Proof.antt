@@ -1,7 +1,7 @@
 -- `vectors::parse::f32_of` meets its contract: the test leaves no NaN's bits. Assumes nothing.
 use native.Mathlib.Omega.{arith}
 use lib.Ieee.{binary32}
-use Rattle.lexical_util.proofs.PartsLaws.{tested-bits}
+use Rattle.lexical_float.proofs.PartsLaws.{tested-bits}
 use borrow.Author.Needs.{needs}
 use Rattle.vectors.proofs.parse.f32_of.Statement.{statement}
 use Rattle.vectors.proofs.parse.f32_of.Tie as tie

@@ -1,0 +1,172 @@
+-- Masks, shifts and signed sums on a bit pattern, as the code has them, are the fields of it. One proof for both widths. Assumes nothing.
+use Prim.Native.Nat.{ℕ, suc, _+_, _-_, _*_, _/_, _%_, _^_, _≤_, _<_}
+use mathlib.Core.Path.{_≡_, sym, ap, _∙_}
+use mathlib.Core.Bool.{Bool, true, false}
+use native.Mathlib.Nat.{mod-lt, mul-pos, zero-lt-suc}
+use native.Mathlib.Omega.{arith}
+use borrow.Author.Tests.{le-leb, lt-leb, eq-eqb, ne-eqb}
+use lib.Dec.{leb}
+use lib.Bits.{bitAnd, and-mask}
+use lib.IntN.{ℤ, pos, _+ℤ_, _-ℤ_}
+use lib.Signed.{ltZ}
+use lib.Pow.{pow-pos}
+use lib.Ieee.{Format, binary32, binary64, prec, emax, low, hid, ones, top, minus, ofBits}
+use mir.Syntax.{w16, w64}
+use mir.Val.{Fits, SFits, toZ, ofZ}
+use mir.Facts.{toZ-ofZ}
+use Rattle.lexical_float.specs.declared.encoding.Encoding.{Encoding}
+use Rattle.lexical_util.specs.declared.exponent.Magnitude.{Magnitude}
+use Rattle.lexical_float.specs.declared.pattern.Pattern.{Pattern}
+use Rattle.lexical_float.specs.declared.num.Parts.the-variants.{Plain, Negative, Special}
+use Rattle.lexical_float.specs.Encoding.{encodingOf, bitsOf}
+use Rattle.lexical_float.specs.Pattern.{BitsOf, IsBits}
+use Rattle.lexical_float.specs.Parts.{magnitudeOf, partsOf, fitting}
+use Rattle.lexical_util.proofs.DifferenceLaws.{minus-fits, difference-fits, difference-is}
+use Rattle.lexical_float.proofs.GapLaws.{minus-add}
+use Rattle.lexical_float.proofs.PatternLaws.{few-is, too-long, no-lead, too-large, too-low, past, sum-is, sum-over}
+use Rattle.lexical_float.proofs.PartsLaws.{signed, finite-below, magnitude-bits, parts-bits, special-bits, sign-and-rest}
+
+-- what is known of the two widths' numbers
+pub record Small (f : Format) : Type 0 where
+  pub size : prec f - 1 < 64
+  pub hidden : hid f ≤ 4503599627370496
+  pub largest : 2 * emax f < 2047
+  pub words : top f ≤ 9223372036854775808
+  pub exponents : ones f < 32768
+  pub least : low f < 32767
+
+pub small : (f : Format) → Small f
+small binary32 = record { size = omega arith; hidden = omega arith; largest = omega arith; words = omega arith; exponents = omega arith; least = omega arith }
+small binary64 = record { size = omega arith; hidden = omega arith; largest = omega arith; words = omega arith; exponents = omega arith; least = omega arith }
+
+-- ---- what the code keeps of a width
+module _ (f : Format) (E : Encoding) (is : E ≡ encodingOf f) where
+  pub hidden-few : E .«hidden_bit_mask» ≤ 4503599627370496
+  hidden-few = rw is (small f .hidden)
+
+  -- the denormals' exponent, as the code reads it
+  least : toZ w16 (ofZ w16 (E .«denormal_exponent»)) ≡ minus 0 (low f)
+  least = rw is (toZ-ofZ (minus-fits w16 0 (low f) (omega arith) (omega (arith, small f .least))))
+
+-- ---- at the width's own masks, the code's answer is the magnitude
+module _ (f : Format) (E : Encoding) (is : E ≡ encodingOf f) (bits : ℕ) (h : bits < ones f * hid f) where
+  pub mask-some : 1 ≤ E .«hidden_bit_mask»
+  mask-some = rw is (pow-pos (prec f - 1))
+
+  pub shift-fits : E .«mantissa_size» < 64
+  shift-fits = rw is (small f .size)
+
+  masked : bitAnd bits (E .«hidden_bit_mask» - 1) ≡ bits % hid f
+  masked = rw is (and-mask bits (prec f - 1))
+
+  pub stored-few : bitAnd bits (E .«hidden_bit_mask» - 1) < 4503599627370496
+  stored-few = rw masked (omega (arith, small f .hidden, mod-lt bits (pow-pos (prec f - 1))))
+
+  pub biased-fits : SFits w16 (pos (bits / 2 ^ E .«mantissa_size»))
+  biased-fits = rw is (record { sfits = omega (arith, small f .exponents, finite-below f bits h .1) })
+
+  pub exponent-fits : SFits w16 (toZ w16 (bits / 2 ^ E .«mantissa_size») -ℤ toZ w16 (ofZ w16 (E .«exponent_bias»)))
+  exponent-fits = rw is (difference-fits w16 (bits / hid f) (suc (low f)) (omega (arith, small f .exponents, finite-below f bits h .1)) (omega (arith, small f .least)))
+
+  pub denormal-is : bits / 2 ^ E .«mantissa_size» ≡ 0
+      → record { mantissa = bitAnd bits (E .«hidden_bit_mask» - 1); exponent = toZ w16 (ofZ w16 (E .«denormal_exponent»)) } ≡ magnitudeOf f (ofBits f bits)
+  denormal-is z =
+      let q : bits / hid f ≡ 0 = rw is at z in
+      rw (masked, least f E is) (sym (magnitude-bits f false bits h ∙ rw (eq-eqb (bits / hid f) 0 q)))
+
+  pub normal-is : (bits / 2 ^ E .«mantissa_size» ≡ 0 → ⊥)
+      → record { mantissa = E .«hidden_bit_mask» + bitAnd bits (E .«hidden_bit_mask» - 1); exponent = toZ w16 (ofZ w16 (toZ w16 (bits / 2 ^ E .«mantissa_size») -ℤ toZ w16 (ofZ w16 (E .«exponent_bias»)))) }
+      ≡ magnitudeOf f (ofBits f bits)
+  normal-is z =
+      let q : bits / hid f ≡ 0 → ⊥ = rw is at z in
+      let e = difference-is w16 (bits / hid f) (suc (low f)) (omega (arith, small f .exponents, finite-below f bits h .1)) (omega (arith, small f .least)) in
+      rw masked (rw (is, e) (sym (magnitude-bits f false bits h ∙ rw (ne-eqb (bits / hid f) 0 q))))
+
+-- ---- and the code's tests tell the three cases apart
+sign-masked : (f : Format) (bits : ℕ) → bitAnd bits (top f - 1) ≡ bits % top f
+sign-masked binary32 bits = and-mask bits 31
+sign-masked binary64 bits = and-mask bits 63
+
+module _ (f : Format) (E : Encoding) (is : E ≡ encodingOf f) where
+  infinity : E .«exponent_mask» ≡ ones f * hid f
+  infinity = ap (λ (E : Encoding). E .«exponent_mask») is
+
+  sign : E .«sign_mask» ≡ top f
+  sign = ap (λ (E : Encoding). E .«sign_mask») is
+
+  pub sign-some : 1 ≤ E .«sign_mask»
+  sign-some = rw sign (mul-pos (pow-pos (prec f - 1)) (zero-lt-suc (ones f)))
+
+  module _ (bits : ℕ) where
+    -- the bits below the sign
+    abbrev pub below-sign : ℕ
+    below-sign = bitAnd bits (E .«sign_mask» - 1)
+
+    rest : below-sign ≡ bits % top f
+    rest = ap (λ (x : ℕ). bitAnd bits (x - 1)) sign ∙ sign-masked f bits
+
+    split : bits < 2 * top f → bits ≡ bitsOf f (leb (top f) bits) below-sign
+    split few = sign-and-rest f bits few ∙ ap (bitsOf f (leb (top f) bits)) (sym rest)
+
+    pub finite-rest : below-sign < E .«exponent_mask» → below-sign < ones f * hid f
+    finite-rest h = rw infinity at h
+
+    finite-is : bits < 2 * top f → below-sign < E .«exponent_mask» → (v : Magnitude) → v ≡ magnitudeOf f (ofBits f below-sign) → partsOf f (ofBits f bits) ≡ signed (leb (top f) bits) v
+    finite-is few h v e =
+        ap (λ (x : ℕ). partsOf f (ofBits f x)) (split few) ∙ parts-bits f (leb (top f) bits) below-sign (finite-rest h) ∙ ap (signed (leb (top f) bits)) (sym e)
+
+    pub plain-is : bits < E .«sign_mask» → bits < 2 * top f → below-sign < E .«exponent_mask» → (v : Magnitude) → v ≡ magnitudeOf f (ofBits f below-sign) → Plain v ≡ partsOf f (ofBits f bits)
+    plain-is l few h v e = sym (finite-is few h v e ∙ ap (λ (s : Bool). signed s v) (lt-leb (top f) bits (rw sign at l)))
+
+    pub negative-is : E .«sign_mask» ≤ bits → bits < 2 * top f → below-sign < E .«exponent_mask» → (v : Magnitude) → v ≡ magnitudeOf f (ofBits f below-sign) → Negative v ≡ partsOf f (ofBits f bits)
+    negative-is l few h v e = sym (finite-is few h v e ∙ ap (λ (s : Bool). signed s v) (le-leb (top f) bits (rw sign at l)))
+
+    pub special-is : bits < 2 * top f → E .«exponent_mask» ≤ below-sign → Special ≡ partsOf f (ofBits f bits)
+    special-is few h =
+        let below-top : below-sign < top f = rw rest (mod-lt bits (rw sign at sign-some)) in
+        sym (ap (λ (x : ℕ). partsOf f (ofBits f x)) (split few) ∙ special-bits f (leb (top f) bits) below-sign (rw infinity at h) below-top)
+
+-- ---- the way back: the code's tests tell which m and k fit
+module _ (f : Format) (E : Encoding) (is : E ≡ encodingOf f) (m k : ℕ) where
+  hidden : E .«hidden_bit_mask» ≡ hid f
+  hidden = ap (λ (E : Encoding). E .«hidden_bit_mask») is
+
+  pub twice-fits : Fits w64 (2 * E .«hidden_bit_mask»)
+  twice-fits = record { fits = omega (arith, hidden, small f .hidden) }
+
+  pub long-no : 2 * E .«hidden_bit_mask» < m → fitting f m (minus k (low f)) ≡ false
+  long-no h = too-long f m k (rw hidden at h)
+
+  pub denormal-bits : m < E .«hidden_bit_mask» → k ≡ 0 → BitsOf f m (minus k (low f)) m
+  denormal-bits h e = few-is f m k (rw hidden at h) e
+
+  pub lead-no : m < E .«hidden_bit_mask» → (k ≡ 0 → ⊥) → fitting f m (minus k (low f)) ≡ false
+  lead-no h l = no-lead f m k (rw hidden at h) l
+
+  pub lift-no : E .«hidden_bit_mask» ≤ m → 2047 < k → fitting f m (minus k (low f)) ≡ false
+  lift-no h l = too-large f m k (past f m k (rw hidden at h) (omega (arith, small f .largest)))
+
+  pub bits-yes : E .«hidden_bit_mask» ≤ m → m ≤ 2 * E .«hidden_bit_mask» → k * E .«hidden_bit_mask» + m < E .«exponent_mask» → BitsOf f m (minus k (low f)) (k * E .«hidden_bit_mask» + m)
+  bits-yes lo hi h = rw is (sum-is f m k (rw is at lo) (rw is at hi) (rw is at h))
+
+  pub bits-no : E .«hidden_bit_mask» ≤ m → m ≤ 2 * E .«hidden_bit_mask» → E .«exponent_mask» ≤ k * E .«hidden_bit_mask» + m → fitting f m (minus k (low f)) ≡ false
+  bits-no lo hi h = sum-over f m k (rw is at lo) (rw is at hi) (rw is at h)
+
+-- ---- a sign joined to the bits below it
+module _ (f : Format) (E : Encoding) (is : E ≡ encodingOf f) (n : ℕ) where
+  pub signed-fits : n < ones f * hid f → Fits w64 (E .«sign_mask» + n)
+  signed-fits h = record { fits = omega (arith, sign f E is, small f .words, finite-below f n h .0) }
+
+  pub sign-set : (s : Bool) → s ≡ true → E .«sign_mask» + n ≡ bitsOf f s n
+  sign-set s e = rw (e, sign f E is)
+
+  pub sign-clear : (s : Bool) → s ≡ false → n ≡ bitsOf f s n
+  sign-clear s e = rw e
+
+-- ---- an exponent against the least one, both as the code has them
+module _ (f : Format) (E : Encoding) (is : E ≡ encodingOf f) (m : ℕ) (e : ℤ) (h : SFits w16 e) where
+  pub low-no : ltZ (toZ w16 (ofZ w16 e)) (toZ w16 (ofZ w16 (E .«denormal_exponent»))) ≡ true → fitting f m e ≡ false
+  low-no t = too-low f m e (rw (toZ-ofZ h, least f E is) at t)
+
+  pub lift-is : (k : ℕ) (r : Pattern) → toZ w16 (ofZ w16 e) ≡ toZ w16 (ofZ w16 (E .«denormal_exponent»)) +ℤ pos k → IsBits f m (minus k (low f)) r → IsBits f m e r
+  lift-is k r l b = rw (sym (toZ-ofZ h) ∙ l ∙ ap (λ (z : ℤ). z +ℤ pos k) (least f E is) ∙ minus-add k (low f)) b

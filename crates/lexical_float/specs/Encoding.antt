@@ -1,0 +1,28 @@
+-- Where the fields of a bit pattern stand, as the code keeps it for each width. Definitions only.
+use Prim.Native.Nat.{ℕ, suc, _+_, _-_, _*_}
+use mathlib.Core.Bool.{Bool, true, false}
+use lib.IntN.{pos}
+use lib.Ieee.{Format, binary32, binary64, prec, low, hid, ones, top, minus}
+use Rattle.lexical_float.specs.declared.encoding.Encoding.{Encoding}
+use Rattle.lexical_float.specs.declared.encoding.Width.{Width}
+use Rattle.lexical_float.specs.declared.encoding.Width.the-variants.{Binary32, Binary64}
+
+abbrev pub formatOf : Width → Format
+formatOf Binary32 = binary32
+formatOf Binary64 = binary64
+
+abbrev pub encodingOf : Format → Encoding
+encodingOf f =
+    record {
+      «mantissa_size» = prec f - 1;
+      «hidden_bit_mask» = hid f;
+      «exponent_mask» = ones f * hid f;
+      «sign_mask» = top f;
+      «exponent_bias» = pos (suc (low f));
+      «denormal_exponent» = minus 0 (low f);
+    }
+
+-- a bit pattern: the sign, and the bits n below it
+abbrev pub bitsOf : Format → Bool → ℕ → ℕ
+bitsOf f true n = top f + n
+bitsOf f false n = n

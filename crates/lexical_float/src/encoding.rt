@@ -1,0 +1,85 @@
+// Derived from the constants, `mantissa` and `exponent` of lexical-util/src/num.rs, changed: one body on u64, with the width beside it instead of a trait.
+ghost use mathlib.Core.Path.{_≡_};
+ghost use Prim.Native.Nat.{_*_, _<_};
+ghost use lib.Ieee.{hid, ones, top, ofBits};
+ghost use Rattle.lexical_float.specs.Encoding.{formatOf, encodingOf};
+ghost use Rattle.lexical_float.specs.Parts.{magnitudeOf, partsOf};
+use crate::num::Parts;
+use lexical_util::Magnitude;
+
+pub(crate) enum Width {
+    Binary32,
+    Binary64,
+}
+
+// Where the fields of a bit pattern stand, and how its exponent is counted. The exponent's mask is also the infinity's bits.
+pub(crate) struct Encoding {
+    pub mantissa_size: u32,
+    pub hidden_bit_mask: u64,
+    pub exponent_mask: u64,
+    pub sign_mask: u64,
+    pub exponent_bias: i16,
+    pub denormal_exponent: i16,
+}
+
+pub(crate) fn encoding_of(width: Width) -> Encoding
+    ensures { λ r. ⌜ r ≡ encodingOf (formatOf width) ⌝ }
+{
+    match width {
+        Width::Binary32 => Encoding {
+            mantissa_size: 23,
+            hidden_bit_mask: 0x80_0000,
+            exponent_mask: 0x7f80_0000,
+            sign_mask: 0x8000_0000,
+            exponent_bias: 150,
+            denormal_exponent: -149,
+        },
+        Width::Binary64 => Encoding {
+            mantissa_size: 52,
+            hidden_bit_mask: 0x10_0000_0000_0000,
+            exponent_mask: 0x7ff0_0000_0000_0000,
+            sign_mask: 0x8000_0000_0000_0000,
+            exponent_bias: 1075,
+            denormal_exponent: -1074,
+        },
+    }
+}
+
+// Mantissa and exponent of the bits below the sign.
+fn magnitude_of_bits(bits: u64, width: Width) -> Magnitude
+    requires { ⌜ bits < ones (formatOf width) * hid (formatOf width) ⌝ }
+    ensures { λ r. ⌜ r ≡ magnitudeOf (formatOf width) (ofBits (formatOf width) bits) ⌝ }
+{
+    let encoding = encoding_of(width);
+    let hidden = encoding.hidden_bit_mask;
+    let stored = bits & (hidden - 1);
+    let biased = bits >> encoding.mantissa_size;
+    if biased == 0 {
+        return Magnitude {
+            mantissa: stored,
+            exponent: encoding.denormal_exponent,
+        };
+    }
+    Magnitude {
+        mantissa: hidden + stored,
+        exponent: biased as i16 - encoding.exponent_bias,
+    }
+}
+
+// The parts of any bit pattern of the width.
+pub(crate) fn parts_of_bits(bits: u64, width: Width) -> Parts
+    requires { ⌜ bits < 2 * top (formatOf width) ⌝ }
+    ensures { λ r. ⌜ r ≡ partsOf (formatOf width) (ofBits (formatOf width) bits) ⌝ }
+{
+    let encoding = encoding_of(width);
+    let sign = encoding.sign_mask;
+    let below = bits & (sign - 1);
+    if below >= encoding.exponent_mask {
+        return Parts::Special;
+    }
+    let value = magnitude_of_bits(below, width);
+    if bits < sign {
+        return Parts::Plain(value);
+    }
+    Parts::Negative(value)
+}

@@ -1,0 +1,34 @@
+-- Significant bits and the three exponents of a value: document 01, "Float parts" and the s of "Layout". Definitions only.
+use Prim.Native.Nat.{ℕ, zero, suc, _-_, _*_, _/_, _≤_, _<_}
+use mathlib.Core.Bool.{Bool, true, false}
+use lib.IntN.{ℤ, pos, negsuc, natAbs, _+ℤ_}
+use lib.Signed.{shrZ}
+use lib.Ieee.{up, down, size}
+
+-- significant bits of the mantissa
+abbrev pub significantBits : ℕ → ℕ
+significantBits m = size m
+
+-- ---- the three exponents of a value m * 2 ^ e
+-- s, in bits: e + significant bits of the mantissa - 1; for zero 0
+abbrev pub scale : ℕ → ℤ → ℤ
+scale zero e = pos 0
+scale (suc m) e = e +ℤ pos (significantBits (suc m) - 1)
+
+-- what s says of the value: it lies from 2 ^ s up to 2 ^ (s + 1). Both sides are multiplied to whole numbers; 2 ^ e is the fraction `up e / down e`.
+pub record LeadingBit (m : ℕ) (e s : ℤ) : Type 0 where
+  pub from : up s * down e ≤ m * up e * down s
+  pub below : m * up e * down (s +ℤ pos 1) < up (s +ℤ pos 1) * down e
+
+-- p, in digits of b bits: floor (s / b), toward minus infinity
+abbrev pub place : ℕ → ℤ → ℤ
+place b s = shrZ s b
+
+-- p's sign
+abbrev pub isNegative : ℤ → Bool
+isNegative (pos n) = false
+isNegative (negsuc n) = true
+
+-- p * b / c, in powers of the base 2 ^ c: its magnitude; its sign is p's. It is whole, since c divides b in every pair.
+abbrev pub power : ℕ → ℕ → ℤ → ℕ
+power b c p = natAbs p * b / c
