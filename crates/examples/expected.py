@@ -113,7 +113,7 @@ def float_lines():
         yield made_line(width, True, m, e)
 
 
-# ---- the three exponents. No pair has b = 0 or c = 0; there docs/DECISIONS.md settles the answer (point 39).
+# ---- the three exponents. No pair has b = 0 or c = 0; there docs/DECISIONS.md settles the answer (point 40).
 
 PAIRS = {
     (2, 2): (1, 1), (4, 4): (2, 2), (8, 8): (3, 3), (16, 16): (4, 4), (32, 32): (5, 5),

@@ -1,7 +1,7 @@
 // The calls that write, for programs in C and Rust. Structs cross by value, and a slice as a pointer and a length.
 ghost use mathlib.Core.Path.{_≡_};
 ghost use Rattle.lexical_util.specs.Answer.{written, held, ofWritten};
-ghost use Rattle.lexical_write_integer.specs.Write.{digitsText};
+ghost use Rattle.lexical_digits.specs.Write.{digitsText};
 ghost use Rattle.lexical_text.specs.Write.{writeText};
 ghost use Rattle.exports.specs.Exports.{formatOf, modeOf, optionsOf, answerOf};
 use lexical_format::NumberFormat;

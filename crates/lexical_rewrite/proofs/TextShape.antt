@@ -8,8 +8,8 @@ use lib.IntN.{ℤ, pos, negsuc, natAbs}
 use lib.ListN.{length, take, drop, replicate, length-map}
 use Rattle.lexical_util.specs.Digit.{digitByte}
 use Rattle.lexical_util.specs.Exponent.{scale, place}
-use Rattle.lexical_write_integer.specs.Digits.{digits, numeral}
-use Rattle.lexical_write_integer.proofs.DigitsLaws.{map-append}
+use Rattle.lexical_digits.specs.Digits.{digits, numeral}
+use Rattle.lexical_digits.proofs.DigitsLaws.{map-append}
 use Rattle.lexical_format.specs.declared.format.Pair.{Pair}
 use Rattle.lexical_format.specs.declared.format.NumberFormat.{NumberFormat}
 use Rattle.lexical_format.specs.declared.options.Options.{Options}

@@ -16,8 +16,8 @@ use lib.Ieee.{up, down}
 use Rattle.lexical_util.specs.Digit.{digitsValue}
 use Rattle.lexical_util.specs.Exponent.{scale, place, power}
 use Rattle.lexical_util.proofs.RadixLaws.{radix-bounds}
-use Rattle.lexical_write_integer.specs.Digits.{digits}
-use Rattle.lexical_write_integer.proofs.DigitsLaws.{pow-mul, radix-above, digits-value, count-pos, length-numeral}
+use Rattle.lexical_digits.specs.Digits.{digits}
+use Rattle.lexical_digits.proofs.DigitsLaws.{pow-mul, radix-above, digits-value, count-pos, length-numeral}
 use Rattle.lexical_format.specs.declared.format.Pair.{Pair}
 use Rattle.lexical_format.specs.declared.format.NumberFormat.{NumberFormat}
 use Rattle.lexical_format.specs.declared.options.Options.{Options}

@@ -12,8 +12,8 @@ use lib.Pow.{pow-pos}
 use Rattle.lexical_util.specs.Digit.{AreDigits}
 use Rattle.lexical_util.specs.Exponent.{scale, place}
 use Rattle.lexical_util.proofs.RadixLaws.{radix-bounds}
-use Rattle.lexical_write_integer.specs.Digits.{digits}
-use Rattle.lexical_write_integer.proofs.DigitsLaws.{radix-above, digits-below, count-pos}
+use Rattle.lexical_digits.specs.Digits.{digits}
+use Rattle.lexical_digits.proofs.DigitsLaws.{radix-above, digits-below, count-pos}
 use Rattle.lexical_format.specs.declared.format.Pair.{Pair}
 use Rattle.lexical_format.specs.declared.format.NumberFormat.{NumberFormat}
 use Rattle.lexical_format.specs.declared.options.Options.{Options}

@@ -15,7 +15,7 @@ use Rattle.lexical_util.specs.Answer.{Answer, done, refused, andThen}
 use Rattle.lexical_util.specs.Exponent.{scale, place, power}
 use Rattle.lexical_util.proofs.AnswerLaws.{refused-done, done-same}
 use Rattle.lexical_util.proofs.RadixLaws.{radix-bounds}
-use Rattle.lexical_write_integer.proofs.DigitsLaws.{digits-value}
+use Rattle.lexical_digits.proofs.DigitsLaws.{digits-value}
 use Rattle.lexical_format.specs.declared.format.Pair.{Pair}
 use Rattle.lexical_format.specs.declared.format.NumberFormat.{NumberFormat}
 use Rattle.lexical_format.specs.declared.options.Options.{Options}

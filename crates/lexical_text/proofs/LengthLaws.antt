@@ -1,5 +1,5 @@
 -- How long a text is, by its layout: with at most 64 digits in D and 1,200 least digits, and s from -1,074 to 1,024, no more than 2,275 bytes. Assumes nothing.
-use Prim.Native.Nat.{ℕ, _+_, _-_, _*_, _/_, _^_, _≤_, _<_, min, max}
+use Prim.Native.Nat.{ℕ, _+_, _-_, _*_, _/_, _≤_, _<_, min, max}
 use mathlib.Core.Path.{_≡_}
 use mathlib.Core.Bool.{Bool, true, false, not, cond, _&&_}
 use mathlib.Core.List.{List, [], _∷_, _++_}
@@ -12,8 +12,8 @@ use lib.ListN.{length, take, drop, length-append, length-replicate, length-take,
 use Rattle.lexical_util.specs.Digit.{isRadix}
 use Rattle.lexical_util.specs.Exponent.{scale, place, power}
 use Rattle.lexical_util.proofs.RadixLaws.{radix-bounds}
-use Rattle.lexical_write_integer.specs.Digits.{numeral}
-use Rattle.lexical_write_integer.proofs.DigitsLaws.{count-le, length-numeral}
+use Rattle.lexical_digits.specs.Digits.{numeral}
+use Rattle.lexical_digits.proofs.DigitsLaws.{count-le, length-numeral}
 use Rattle.lexical_format.specs.declared.format.Pair.{Pair}
 use Rattle.lexical_format.specs.declared.format.NumberFormat.{NumberFormat}
 use Rattle.lexical_format.specs.declared.options.Options.{Options}

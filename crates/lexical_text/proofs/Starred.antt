@@ -5,7 +5,7 @@ use lib.Count.{trailingZeros}
 use lib.Ieee.{size, span, climb, odd, units, round}
 use Rattle.lexical_util.specs.Digit.{digitByte, digitValue, digitIn, isDigit, isRadix}
 use Rattle.lexical_util.specs.Examples.{failing}
-use Rattle.lexical_write_integer.specs.Digits.{digitsUpTo, digits, numeral}
+use Rattle.lexical_digits.specs.Digits.{digitsUpTo, digits, numeral}
 use Rattle.lexical_format.specs.Format.{pairs, findPair, pairOf, badByte, badBytes, badCounts, badBreaks, writingFormat}
 use Rattle.lexical_text.specs.Value.{normal, exactDigits}
 use Rattle.lexical_text.specs.Limit.{multipleOf, limited}

@@ -13,8 +13,8 @@ use lib.Ieee.Digits.{size-lt, size-le, size-reaches}
 use Rattle.lexical_util.specs.Exponent.{scale, place}
 use Rattle.lexical_util.proofs.ExponentLaws.{scale-is}
 use Rattle.lexical_util.proofs.PowerLaws.{size-more, size-pos}
-use Rattle.lexical_write_integer.specs.Digits.{digits, numeral}
-use Rattle.lexical_write_integer.proofs.DigitsLaws.{radix-above, count-bits, count-lt, first-pos, length-numeral}
+use Rattle.lexical_digits.specs.Digits.{digits, numeral}
+use Rattle.lexical_digits.proofs.DigitsLaws.{radix-above, count-bits, count-lt, first-pos, length-numeral}
 use Rattle.lexical_text.specs.Value.{Value, normal, modulo, exactDigits}
 use Rattle.lexical_text.proofs.Integers.{modulo-lt, floor-modulo, floor-add}
 

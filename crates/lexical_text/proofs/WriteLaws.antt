@@ -12,8 +12,8 @@ use Rattle.lexical_util.specs.Answer.{Answer, done, refused, andThen}
 use Rattle.lexical_util.specs.Digit.{digitByte}
 use Rattle.lexical_util.proofs.AnswerLaws.{refused-done, done-same}
 use Rattle.lexical_util.proofs.DigitLaws.{byte-figure, byte-capital}
-use Rattle.lexical_write_integer.specs.Digits.{digits, numeral}
-use Rattle.lexical_write_integer.proofs.DigitsLaws.{radix-above, last-byte}
+use Rattle.lexical_digits.specs.Digits.{digits, numeral}
+use Rattle.lexical_digits.proofs.DigitsLaws.{radix-above, last-byte}
 use Rattle.lexical_format.specs.declared.format.Pair.{Pair}
 use Rattle.lexical_format.specs.declared.format.NumberFormat.{NumberFormat}
 use Rattle.lexical_format.specs.declared.options.Options.{Options}

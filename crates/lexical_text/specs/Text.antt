@@ -7,7 +7,7 @@ use lib.IntN.{ℤ, pos, negsuc, natAbs}
 use lib.Signed.{ltZ}
 use lib.ListN.{length, take, drop, replicate}
 use Rattle.lexical_util.specs.Exponent.{scale, place, power}
-use Rattle.lexical_write_integer.specs.Digits.{numeral}
+use Rattle.lexical_digits.specs.Digits.{numeral}
 use Rattle.lexical_format.specs.declared.format.Pair.{Pair}
 use Rattle.lexical_format.specs.declared.format.NumberFormat.{NumberFormat}
 use Rattle.lexical_format.specs.declared.options.Options.{Options}

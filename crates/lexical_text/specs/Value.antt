@@ -4,7 +4,7 @@ use mathlib.Core.List.{List}
 use lib.Count.{trailingZeros}
 use lib.IntN.{ℤ, pos, negsuc, _+ℤ_}
 use lib.Ieee.{size}
-use Rattle.lexical_write_integer.specs.Digits.{numeral}
+use Rattle.lexical_digits.specs.Digits.{numeral}
 
 -- a whole number times a power of two
 pub record Value : Type 0 where

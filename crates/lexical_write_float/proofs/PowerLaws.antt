@@ -7,9 +7,9 @@ use lib.IntN.{ℤ, pos, negsuc}
 use lib.ListN.{length, length-append}
 use Rattle.lexical_util.specs.Digit.{isRadix}
 use Rattle.lexical_util.specs.Exponent.{isNegative, power}
-use Rattle.lexical_write_integer.specs.Digits.{numeral}
-use Rattle.lexical_write_integer.specs.Write.{digitCount}
-use Rattle.lexical_write_integer.proofs.DigitsLaws.{length-numeral}
+use Rattle.lexical_digits.specs.Digits.{numeral}
+use Rattle.lexical_digits.specs.Write.{digitCount}
+use Rattle.lexical_digits.proofs.DigitsLaws.{length-numeral}
 use Rattle.lexical_format.specs.declared.format.Pair.{Pair}
 use Rattle.lexical_format.specs.declared.format.NumberFormat.{NumberFormat}
 use Rattle.lexical_format.specs.declared.options.Options.{Options}

@@ -11,7 +11,7 @@ use Rattle.lexical_util.specs.Answer.{Answer, done, refused, andThen}
 use Rattle.lexical_util.specs.declared.exponent.Magnitude.{Magnitude}
 use Rattle.lexical_float.specs.declared.num.Parts.{Parts}
 use Rattle.lexical_float.specs.declared.num.Parts.the-variants as parts
-use Rattle.lexical_write_integer.specs.Digits.{numeral}
+use Rattle.lexical_digits.specs.Digits.{numeral}
 use Rattle.lexical_format.specs.declared.checks.CheckedFormat.{CheckedFormat}
 use Rattle.lexical_format.specs.declared.format.Pair.{Pair}
 use Rattle.lexical_format.specs.declared.format.NumberFormat.{NumberFormat}

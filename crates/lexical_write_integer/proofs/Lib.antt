@@ -1,9 +1,3 @@
-pub mod DigitsAnswer
-pub mod MantissaAnswer
-pub mod CountLaws
-pub mod DigitsLaws
-pub mod LastLaws
-pub mod SplitLaws
+pub mod RadixLaws
 pub mod FillLaws
 pub mod PairLaws
-pub mod DigitsClaims

@@ -6,7 +6,7 @@ use native.Mathlib.Nat.{add-zero, zero-add, add-suc, suc-add, le-of-suc-le-suc, 
 use native.Mathlib.Omega.{arith}
 use lib.ListN.{length, getD, drop, set, length-set}
 use Rattle.lexical_util.specs.Digit.{digitByte}
-use Rattle.lexical_write_integer.specs.Write.{lastNumeral}
+use Rattle.lexical_digits.specs.Write.{lastNumeral}
 use Rattle.lexical_write_integer.specs.Table.{pairByte}
 use Rattle.lexical_write_integer.proofs.FillLaws.{back-step}
 

@@ -1,4 +1,1 @@
-pub mod Digits
 pub mod Table
-pub mod Write
-pub mod Claims

@@ -5,8 +5,8 @@ ghost use Prim.Native.Nat.{_^_, _-_, _/_, _<_, _≤_};
 ghost use lib.Ieee.{size};
 ghost use lib.ListN.{length};
 ghost use Rattle.lexical_util.specs.Digit.{isRadix};
-ghost use Rattle.lexical_write_integer.specs.Digits.{digits};
-ghost use Rattle.lexical_write_integer.specs.Write.{digitCount};
+ghost use Rattle.lexical_digits.specs.Digits.{digits};
+ghost use Rattle.lexical_digits.specs.Write.{digitCount};
 use crate::decimal::decimal_count;
 use lexical_util::significant_bits;
 

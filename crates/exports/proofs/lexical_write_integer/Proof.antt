@@ -1,7 +1,7 @@
 -- `exports::lexical_write_integer` meets its contract: what the call beneath answers and leaves. Assumes nothing.
 use borrow.Author.Needs.{needs}
 use denote.Ref.{now}
-use Rattle.lexical_write_integer.specs.Write.{digitsText}
+use Rattle.lexical_digits.specs.Write.{digitsText}
 use Rattle.exports.proofs.ExportLaws.{handed-on}
 use Rattle.exports.proofs.lexical_write_integer.Statement.{statement}
 use Rattle.exports.proofs.lexical_write_integer.Tie as tie

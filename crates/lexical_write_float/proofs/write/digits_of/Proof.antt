@@ -9,7 +9,7 @@ use native.Mathlib.Omega.{arith}
 use mir.Syntax.{w16}
 use mir.Val.{SFits}
 use lib.ListN.{length}
-use Rattle.lexical_write_integer.specs.Digits.{numeral}
+use Rattle.lexical_digits.specs.Digits.{numeral}
 use Rattle.lexical_text.specs.Value.{modulo, exactDigits}
 use Rattle.lexical_write_float.proofs.PowerLaws.{count-is}
 use Rattle.lexical_text.proofs.ValueLaws.{exact-few}

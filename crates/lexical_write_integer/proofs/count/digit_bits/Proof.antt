@@ -1,6 +1,6 @@
 -- `lexical_write_integer::count::digit_bits` meets its contract: a radix that is none of the others is 32. Assumes nothing.
 use borrow.Author.Needs.{needs}
-use Rattle.lexical_write_integer.proofs.CountLaws.{radix-last}
+use Rattle.lexical_write_integer.proofs.RadixLaws.{radix-last}
 use Rattle.lexical_write_integer.proofs.count.digit_bits.Statement.{statement}
 use Rattle.lexical_write_integer.proofs.count.digit_bits.Tie as tie
 

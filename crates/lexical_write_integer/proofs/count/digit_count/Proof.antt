@@ -1,7 +1,7 @@
 -- `lexical_write_integer::count::digit_count` meets its contract: one law for each answer. Assumes nothing.
 use mathlib.Core.Path.{sym, _∙_}
 use borrow.Author.Needs.{needs}
-use Rattle.lexical_write_integer.proofs.DigitsAnswer.{count-known, count-decimal, count-unknown}
+use Rattle.lexical_digits.proofs.DigitsAnswer.{count-known, count-decimal, count-unknown}
 use Rattle.lexical_write_integer.proofs.count.digit_count.Statement.{statement}
 use Rattle.lexical_write_integer.proofs.count.digit_count.Tie as tie
 

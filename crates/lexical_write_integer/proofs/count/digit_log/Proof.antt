@@ -1,7 +1,7 @@
 -- `lexical_write_integer::count::digit_log` meets its contract. Assumes nothing.
 use native.Mathlib.Omega.{arith}
 use borrow.Author.Needs.{needs}
-use Rattle.lexical_write_integer.proofs.CountLaws.{log-small, count-log}
+use Rattle.lexical_digits.proofs.CountLaws.{log-small, count-log}
 use Rattle.lexical_write_integer.proofs.count.digit_log.Statement.{statement}
 use Rattle.lexical_write_integer.proofs.count.digit_log.Tie as tie
 

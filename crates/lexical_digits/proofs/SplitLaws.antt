@@ -2,17 +2,17 @@
 use Prim.Native.Nat.{ℕ, _+_, _-_, _*_, _/_, _^_, _≤_, _<_}
 use mathlib.Core.Path.{_≡_, sym, ap, _∙_}
 use mathlib.Core.List.{_++_}
-use native.Mathlib.Nat.{mul-add, mul-one, mul-le-mul-left, mul-div-le, le-trans, lt-of-le-of-lt}
+use native.Mathlib.Nat.{mul-add, mul-one, mul-le-mul-left, mul-div-le, lt-of-le-of-lt}
 use native.Mathlib.Omega.{arith}
 use lib.Ieee.{size}
 use lib.Ieee.Digits.{size-le}
 use lib.ListN.{length, take, drop}
 use lib.Seq.{take-at, drop-at}
-use Rattle.lexical_write_integer.specs.Digits.{digits, numeral}
-use Rattle.lexical_write_integer.specs.Write.{lastNumeral}
-use Rattle.lexical_write_integer.proofs.CountLaws.{count-log}
-use Rattle.lexical_write_integer.proofs.DigitsLaws.{pow-mul, radix-above, length-numeral}
-use Rattle.lexical_write_integer.proofs.LastLaws.{length-last, numeral-last, last-add}
+use Rattle.lexical_digits.specs.Digits.{digits, numeral}
+use Rattle.lexical_digits.specs.Write.{lastNumeral}
+use Rattle.lexical_digits.proofs.CountLaws.{count-log}
+use Rattle.lexical_digits.proofs.DigitsLaws.{pow-mul, radix-above, length-numeral}
+use Rattle.lexical_digits.proofs.LastLaws.{length-last, numeral-last, last-add}
 
 module _ (b x n w : ℕ) (some-bits : 0 < b) (count : n ≡ length (numeral (2 ^ b) x)) (inside : w ≤ n) where
   split : numeral (2 ^ b) x ≡ lastNumeral (2 ^ b) w (x / 2 ^ (b * (n - w))) ++ lastNumeral (2 ^ b) (n - w) x

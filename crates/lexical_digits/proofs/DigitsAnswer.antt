@@ -8,9 +8,9 @@ use Rattle.lexical_util.specs.Answer.{done, refused, written, held}
 use Rattle.lexical_util.specs.Digit.{isRadix}
 use Rattle.lexical_util.proofs.AnswerLaws.{text-fits, text-short}
 use Rattle.lexical_util.proofs.RadixLaws.{radix-bounds}
-use Rattle.lexical_write_integer.specs.Digits.{digits}
-use Rattle.lexical_write_integer.specs.Write.{lastNumeral, digitsText, digitCount}
-use Rattle.lexical_write_integer.proofs.LastLaws.{length-last, numeral-last}
+use Rattle.lexical_digits.specs.Digits.{digits}
+use Rattle.lexical_digits.specs.Write.{lastNumeral, digitsText, digitCount}
+use Rattle.lexical_digits.proofs.LastLaws.{length-last, numeral-last}
 
 -- ---- how many
 pub count-known : (x r : ℕ) → isRadix r ≡ true → digitCount x r ≡ length (digits r x)

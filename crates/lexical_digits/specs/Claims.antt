@@ -6,8 +6,8 @@ use mathlib.Core.List.{_++_}
 use lib.ListN.{length, getD}
 use lib.Ieee.{size}
 use Rattle.lexical_util.specs.Digit.{AreDigits, digitsValue}
-use Rattle.lexical_write_integer.specs.Digits.{digits, numeral}
-use Rattle.lexical_write_integer.specs.Write.{lastNumeral}
+use Rattle.lexical_digits.specs.Digits.{digits, numeral}
+use Rattle.lexical_digits.specs.Write.{lastNumeral}
 
 -- read back, the digits are the number
 abbrev pub ReadBack : Type 0

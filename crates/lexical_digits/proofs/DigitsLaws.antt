@@ -14,7 +14,7 @@ use lib.Ieee.{size}
 use lib.Ieee.Digits.{size-lt, size-reaches}
 use Rattle.lexical_util.specs.Digit.{digitByte, AreDigits, readOn, digitsValue}
 use Rattle.lexical_util.proofs.PowerLaws.{size-pos}
-use Rattle.lexical_write_integer.specs.Digits.{digitsUpTo, digits, numeral}
+use Rattle.lexical_digits.specs.Digits.{digitsUpTo, digits, numeral}
 
 -- ---- the two cases, and induction by them
 same : (r : ℕ) → 1 < r → (f g x : ℕ) → x ≤ f → x ≤ g → digitsUpTo r f x ≡ digitsUpTo r g x

@@ -8,8 +8,8 @@ use borrow.Author.Tests.{le-leb, lt-leb}
 use lib.ListN.{length, drop}
 use Rattle.lexical_util.specs.Answer.{done, refused, written, held}
 use Rattle.lexical_util.proofs.AnswerLaws.{text-fits, text-short}
-use Rattle.lexical_write_integer.specs.Write.{lastNumeral, mantissaText}
-use Rattle.lexical_write_integer.proofs.LastLaws.{length-last}
+use Rattle.lexical_digits.specs.Write.{lastNumeral, mantissaText}
+use Rattle.lexical_digits.proofs.LastLaws.{length-last}
 
 pub unknown : (x b k : ℕ) (out : List ℕ) → (b ≡ 0) ⊎ (5 < b) → (refused 2 0 ≡ written (mantissaText x b k) out) × (out ≡ held (mantissaText x b k) out)
 unfolding mantissaText

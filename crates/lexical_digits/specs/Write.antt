@@ -6,7 +6,7 @@ use lib.Dec.{leb}
 use lib.ListN.{length}
 use Rattle.lexical_util.specs.Answer.{Answer, done, checked}
 use Rattle.lexical_util.specs.Digit.{digitByte, isRadix}
-use Rattle.lexical_write_integer.specs.Digits.{digits, numeral}
+use Rattle.lexical_digits.specs.Digits.{digits, numeral}
 
 -- 2 radix unknown
 unfoldable pub digitsText : ℕ → ℕ → Answer (List ℕ)

@@ -5,9 +5,9 @@ use mathlib.Core.List.{_++_, append-assoc, append-nil}
 use native.Mathlib.Nat.{add-zero, add-suc, div-one, div-div-eq-div-mul, pow-zero, pow-suc, mul-comm, mod-eq-of-lt}
 use native.Mathlib.Numerals.{add-one}
 use lib.ListN.{length, length-append}
-use Rattle.lexical_write_integer.specs.Digits.{digits, numeral}
-use Rattle.lexical_write_integer.specs.Write.{lastNumeral}
-use Rattle.lexical_write_integer.proofs.DigitsLaws.{by-quotient, count-lt, count-ge, numeral-lt, numeral-ge}
+use Rattle.lexical_digits.specs.Digits.{digits, numeral}
+use Rattle.lexical_digits.specs.Write.{lastNumeral}
+use Rattle.lexical_digits.proofs.DigitsLaws.{by-quotient, count-lt, count-ge, numeral-lt, numeral-ge}
 
 pub length-last : (r k x : ℕ) → length (lastNumeral r k x) ≡ k
 unfolding lastNumeral

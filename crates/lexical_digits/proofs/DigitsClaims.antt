@@ -5,9 +5,9 @@ use native.Mathlib.Nat.{div-eq-of-lt, add-div-right, zero-lt-suc}
 use native.Mathlib.Omega.{arith}
 use lib.Pow.{pow-pos}
 use lib.Ieee.{size}
-use Rattle.lexical_write_integer.specs.Claims.{ReadBack, EachBelow, NoLeadingZero, DigitCount, LastJoin, LastAreAll}
-use Rattle.lexical_write_integer.proofs.DigitsLaws.{digits-value, digits-below, first-pos, count-lt, count-bits}
-use Rattle.lexical_write_integer.proofs.LastLaws.{numeral-last, last-add}
+use Rattle.lexical_digits.specs.Claims.{ReadBack, EachBelow, NoLeadingZero, DigitCount, LastJoin, LastAreAll}
+use Rattle.lexical_digits.proofs.DigitsLaws.{digits-value, digits-below, first-pos, count-lt, count-bits}
+use Rattle.lexical_digits.proofs.LastLaws.{numeral-last, last-add}
 use Rattle.lexical_util.proofs.PowerLaws.{size-zero, size-pos}
 
 pub read-back : ReadBack

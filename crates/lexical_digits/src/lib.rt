@@ -1,0 +1,1 @@
+// The digits of a number: definitions and their laws.
