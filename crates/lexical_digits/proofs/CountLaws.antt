@@ -17,6 +17,3 @@ log-small b x h = omega (arith, size-le x 64 h, div-le-self (size x - 1) b)
 pub count-log : (b x : ℕ) → 0 < b → (size x - 1) / b + 1 ≡ length (digits (2 ^ b) x)
 count-log b zero hb = rw (size-zero, zero-div, count-lt (2 ^ b) 0 (pow-pos b))
 count-log b (suc x) hb = omega (arith, count-bits b (suc x) hb (omega arith))
-
-pub count-small : (b x : ℕ) → 0 < b → x < 2 ^ 64 → length (digits (2 ^ b) x) ≤ 64
-count-small b x hb h = omega (arith, count-log b x hb, log-small b x h)

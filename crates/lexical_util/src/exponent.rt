@@ -53,7 +53,7 @@ pub fn unsigned_abs(value: i32) -> u32
 }
 
 // value / divisor, and 0 for a divisor of 0. Digits have 1 to 5 bits, and a quotient by a constant takes a fraction of the time of one by a variable.
-fn quotient(value: u64, divisor: u32) -> u64
+pub fn quotient(value: u64, divisor: u32) -> u64
     ensures { λ r. ⌜ r ≡ value / divisor ⌝ }
 {
     match divisor {

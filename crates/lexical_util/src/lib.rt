@@ -14,6 +14,7 @@ pub use exponent::DigitExponent;
 pub use exponent::Magnitude;
 pub use exponent::base_exponent;
 pub use exponent::digit_exponent;
+pub use exponent::quotient;
 pub use exponent::sci_exp;
 pub use exponent::significant_bits;
 pub use exponent::unsigned_abs;

@@ -16,22 +16,16 @@ use lexical_format::RoundMode;
 use lexical_util::BitExponent;
 use lexical_util::DigitExponent;
 use lexical_util::Magnitude;
+use lexical_util::quotient;
 use lexical_util::sci_exp;
 use lexical_util::significant_bits;
 use lexical_util::unsigned_abs;
 
-// Each divisor as a literal: a division by a variable is slow.
 fn remainder(value: u32, divisor: u32) -> u32
-    requires { ⌜ (0 < divisor) × (divisor ≤ 5) ⌝ }
+    requires { ⌜ 0 < divisor ⌝ }
     ensures { λ r. ⌜ (r ≡ value % divisor) × (r < divisor) ⌝ }
 {
-    match divisor {
-        1 => 0,
-        2 => value % 2,
-        3 => value % 3,
-        4 => value % 4,
-        _ => value % 5,
-    }
+    value - divisor * quotient(value as u64, divisor) as u32
 }
 
 // e mod b: by how many bits a mantissa is shifted up so that its exponent is a whole number of digits.

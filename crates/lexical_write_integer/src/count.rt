@@ -1,13 +1,14 @@
 // Derived from lexical-write-integer/src/digit_count.rs, changed: u64 alone, the radix by its bits, a test for 0 instead of `x | 1`.
 ghost use mathlib.Core.Path.{_≡_};
 ghost use mathlib.Core.Bool.{true};
-ghost use Prim.Native.Nat.{_^_, _-_, _/_, _<_, _≤_};
+ghost use Prim.Native.Nat.{_^_, _-_, _<_, _≤_};
 ghost use lib.Ieee.{size};
 ghost use lib.ListN.{length};
 ghost use Rattle.lexical_util.specs.Digit.{isRadix};
 ghost use Rattle.lexical_digits.specs.Digits.{digits};
 ghost use Rattle.lexical_digits.specs.Write.{digitCount};
 use crate::decimal::decimal_count;
+use lexical_util::quotient;
 use lexical_util::significant_bits;
 
 // The place of the highest bit that is set, 0 for 0.
@@ -18,26 +19,12 @@ pub(crate) fn fast_log2(x: u64) -> u32
     if bits == 0 { 0 } else { bits - 1 }
 }
 
-// k / b: a division by a constant takes a fraction of the time of one by a variable.
-fn over_bits(k: u32, b: u32) -> u32
-    requires { ⌜ (0 < b) × (b ≤ 5) ⌝ }
-    ensures { λ r. ⌜ r ≡ k / b ⌝ }
-{
-    match b {
-        1 => k,
-        2 => k / 2,
-        3 => k / 3,
-        4 => k / 4,
-        _ => k / 5,
-    }
-}
-
 // How many digits value has in radix 2^b.
 pub(crate) fn digit_log(value: u64, b: u32) -> usize
     requires { ⌜ (0 < b) × (b ≤ 5) ⌝ }
     ensures { λ r. ⌜ r ≡ length (digits (2 ^ b) value) ⌝ }
 {
-    (over_bits(fast_log2(value), b) + 1) as usize
+    (quotient(fast_log2(value) as u64, b) + 1) as usize
 }
 
 // The bits of a digit: b of radix 2^b.

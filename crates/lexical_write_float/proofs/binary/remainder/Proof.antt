@@ -1,28 +1,29 @@
--- `lexical_write_float::binary::remainder` meets its contract: at each divisor. Assumes nothing.
-use Prim.Native.Nat.{ℕ, _%_, _<_}
-use mathlib.Core.Path.{_≡_, refl}
-use native.Mathlib.Nat.{mod-lt, mod-one}
+-- `lexical_write_float::binary::remainder` meets its contract: what the quotient leaves. Assumes nothing.
+use Prim.Native.Nat.{ℕ, _+_, _*_, _%_}
+use mathlib.Core.Path.{_≡_, ap, _∙_}
+use native.Mathlib.Nat.{mod-lt, div-add-mod, div-le-self}
 use native.Mathlib.Omega.{arith}
 use Rattle.lexical_write_float.proofs.binary.remainder.Statement.{statement}
 use Rattle.lexical_write_float.proofs.binary.remainder.Tie as tie
 
-by : (value n divisor : ℕ) → divisor ≡ n → 0 < n → (value % n ≡ value % divisor) × (value % n < divisor)
-by value n divisor e h = rw e (refl, mod-lt value h)
+-- the quotient's part, and what is left
+parts : (c : tie.After-quotient) → let a = c .before .args in a .divisor * c .quotient .result + a .value % a .divisor ≡ a .value
+parts c = let a = c .before .args in ap (λ (q : ℕ). a .divisor * q + a .value % a .divisor) (c .quotient .ensures) ∙ div-add-mod (a .value) (a .divisor)
+
+quotient-requires : tie.Need-quotient-requires
+quotient-requires c κs = tt
+
+cast-result : tie.Need-cast-result
+cast-result c = let a = c .before .args in omega (arith, c .quotient .ensures, div-le-self (a .value) (a .divisor))
+
+mul-result : tie.Need-mul-result
+mul-result c = omega (arith, parts c)
+
+sub-result : tie.Need-sub-result
+sub-result c = omega (arith, parts c)
 
 returns : tie.Need-returns
-returns c = rw (mod-one (c .before .args .value)) at (by (c .before .args .value) 1 (c .before .args .divisor) (omega arith) (omega arith))
-
-returns-2 : tie.Need-returns-2
-returns-2 c = by _ 2 _ (omega arith) (omega arith)
-
-returns-3 : tie.Need-returns-3
-returns-3 c = by _ 3 _ (omega arith) (omega arith)
-
-returns-4 : tie.Need-returns-4
-returns-4 c = by _ 4 _ (omega arith) (omega arith)
-
-returns-5 : tie.Need-returns-5
-returns-5 c = by _ 5 _ (omega arith) (omega arith)
+returns c = let a = c .before .args in (omega (arith, parts c), omega (arith, parts c, mod-lt (a .value) (c .before .pre)))
 
 pub remainder-spec : {M : Type 1} → statement M
-remainder-spec = tie.close (tie.spec returns returns-2 returns-3 returns-4 returns-5)
+remainder-spec = tie.close (tie.spec quotient-requires cast-result mul-result sub-result returns)
