@@ -1,11 +1,12 @@
 -- What the digits calls are asked for: document 01, "Digits". The answer of one that writes, and the lent bytes, are `written` and `held` of it. Definitions only.
-use Prim.Native.Nat.{ℕ, zero, suc, _/_, _%_, _^_}
+use Prim.Native.Nat.{ℕ, zero, suc, _+_, _-_, _/_, _%_, _^_}
 use mathlib.Core.Bool.{cond, not, _&&_}
 use mathlib.Core.List.{List, [], _∷_, _++_}
 use lib.Dec.{leb}
 use lib.ListN.{length}
 use Rattle.lexical_util.specs.Answer.{Answer, done, checked}
 use Rattle.lexical_util.specs.Digit.{digitByte, isRadix}
+use Rattle.lexical_util.specs.Exponent.{significantBits}
 use Rattle.lexical_digits.specs.Digits.{digits, numeral}
 
 -- 2 radix unknown
@@ -15,6 +16,10 @@ digitsText x radix = checked ((2, not (isRadix radix)) ∷ []) (done (numeral ra
 -- how many digits x has, and 0 where the radix is unknown
 unfoldable pub digitCount : ℕ → ℕ → ℕ
 digitCount x radix = cond (isRadix radix) (length (digits radix x)) 0
+
+-- the same in radix 2 ^ b, by the place of the leading bit
+unfoldable pub digitLog : ℕ → ℕ → ℕ
+digitLog x b = (significantBits x - 1) / b + 1
 
 -- the bytes of the last k digits of x, leading zeros included
 unfoldable pub lastNumeral : ℕ → ℕ → ℕ → List ℕ

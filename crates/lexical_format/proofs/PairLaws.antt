@@ -1,11 +1,12 @@
 -- The table of pairs by the bits of the two numbers: case by case for the five numbers that stand in it, and for all others at once. Assumes nothing.
 use Prim.Native.Nat.{ℕ}
-use mathlib.Core.Path.{_≡_, refl, sym}
+use mathlib.Core.Path.{_≡_, refl}
 use mathlib.Core.Bool.{Bool, true, false, cond}
-use mathlib.Core.Option.{none, some}
-use borrow.Author.Tests.{eqb-true}
+use mathlib.Core.Option.{Option, none, some}
+use borrow.Author.Tests.{eqb-true, eq-eqb, ne-eqb}
 use lib.Dec.{eqb}
-use Rattle.lexical_format.specs.Code.{bits, inTable}
+use Rattle.lexical_format.specs.declared.format.Pair.{Pair}
+use Rattle.lexical_format.specs.Code.{bits, baseBits}
 use Rattle.lexical_format.specs.Format.{pair, pairs, findPair}
 
 -- a number that is none of the five
@@ -35,21 +36,33 @@ pub bits-other : (n : ℕ) → Other n → 0 ≡ bits n
 unfolding bits
 bits-other n o = rw (o .not-2, o .not-4, o .not-8, o .not-16, o .not-32)
 
-abbrev ByBits : ℕ → ℕ → Type 0
-ByBits radix base = findPair radix base pairs ≡ cond (inTable (bits radix) (bits base)) (some (pair radix base (bits radix) (bits base))) none
+abbrev ByBits : ℕ → ℕ → ℕ → ℕ → Option Pair
+ByBits radix base b c = cond (eqb b 0) none (cond (eqb c 0) none (some (pair radix base b c)))
 
--- the row of a radix and a base
-find-bits : (radix base : ℕ) → ByBits radix base
-unfolding pairs findPair bits inTable
-find-bits =
-    each (λ radix. (base : ℕ) → ByBits radix base)
-    (each (ByBits 2) refl refl refl refl refl (λ n o. rw (o .not-2, o .not-4, o .not-8, o .not-16, o .not-32)))
-    (each (ByBits 4) refl refl refl refl refl (λ n o. rw (o .not-2, o .not-4, o .not-8, o .not-16, o .not-32)))
-    (each (ByBits 8) refl refl refl refl refl (λ n o. rw (o .not-2, o .not-4, o .not-8, o .not-16, o .not-32)))
-    (each (ByBits 16) refl refl refl refl refl (λ n o. rw (o .not-2, o .not-4, o .not-8, o .not-16, o .not-32)))
-    (each (ByBits 32) refl refl refl refl refl (λ n o. rw (o .not-2, o .not-4, o .not-8, o .not-16, o .not-32)))
+abbrev Found : ℕ → ℕ → Type 0
+Found radix base = ByBits radix base (bits radix) (baseBits radix base (bits radix)) ≡ findPair radix base pairs
+
+found : (radix base : ℕ) → Found radix base
+unfolding pairs findPair bits baseBits
+found =
+    each (λ radix. (base : ℕ) → Found radix base)
+    (each (Found 2) refl refl refl refl refl (λ n o. rw (o .not-2, o .not-4)))
+    (each (Found 4) refl refl refl refl refl (λ n o. rw (o .not-2, o .not-4)))
+    (each (Found 8) refl refl refl refl refl (λ n o. rw (o .not-2, o .not-4, o .not-8)))
+    (each (Found 16) refl refl refl refl refl (λ n o. rw (o .not-2, o .not-4, o .not-16)))
+    (each (Found 32) refl refl refl refl refl (λ n o. rw (o .not-2, o .not-4, o .not-32)))
     (λ n o base. rw (o .not-2, o .not-4, o .not-8, o .not-16, o .not-32))
 
--- and as the code has it, the bits and the test named
-pub find-row : (radix base b c : ℕ) (t : Bool) → b ≡ bits radix → c ≡ bits base → t ≡ inTable b c → cond t (some (pair radix base b c)) none ≡ findPair radix base pairs
-find-row radix base b c t hb hc ht = rw (ht, hb, hc) (sym (find-bits radix base))
+-- the row of a radix and a base, by what the code has of them
+module _ (radix base b c : ℕ) (radix-bits : b ≡ bits radix) (base-bits : c ≡ baseBits radix base b) where
+  row : ByBits radix base b c ≡ findPair radix base pairs
+  row = rw (base-bits, radix-bits) (found radix base)
+
+  pub no-radix : b ≡ 0 → none ≡ findPair radix base pairs
+  no-radix h = rw (eq-eqb b 0 h) at row
+
+  pub no-base : (b ≡ 0 → ⊥) → c ≡ 0 → none ≡ findPair radix base pairs
+  no-base h k = rw (ne-eqb b 0 h, eq-eqb c 0 k) at row
+
+  pub found-row : (b ≡ 0 → ⊥) → (c ≡ 0 → ⊥) → some (pair radix base b c) ≡ findPair radix base pairs
+  found-row h k = rw (ne-eqb b 0 h, ne-eqb c 0 k) at row

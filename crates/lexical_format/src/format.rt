@@ -1,7 +1,7 @@
 // The part of a format that the Rust packs into its u128 parameter FORMAT: document 01, "Formats".
 ghost use mathlib.Core.Path.{_≡_};
 ghost use Rattle.lexical_format.specs.Format.{pairs, findPair, ofFoundPair};
-ghost use Rattle.lexical_format.specs.Code.{bits, inTable};
+ghost use Rattle.lexical_format.specs.Code.{bits, baseBits};
 
 // A row of the table of pairs: a radix of b bits to a digit, and the base of the exponent, 2 to the power c.
 pub struct Pair {
@@ -41,20 +41,20 @@ fn bits_of(number: u32) -> u32
     }
 }
 
-// Whether the table has a row of these bits: the two equal, the base 2, or 16/4.
-fn in_table(b: u32, c: u32) -> bool
-    ensures { λ r. ⌜ r ≡ inTable b c ⌝ }
+// c of a radix of b bits and a base: the two are equal, the base is 2, or the pair is 16/4. It is 0 where the table has no such row.
+fn base_bits(radix: u32, base: u32, b: u32) -> u32
+    ensures { λ r. ⌜ r ≡ baseBits radix base b ⌝ }
 {
-    if b == 0 {
-        return false;
+    if base == radix {
+        return b;
     }
-    if c == b {
-        return true;
+    if base == 2 {
+        return 1;
     }
-    if c == 1 {
-        return true;
+    if base != 4 {
+        return 0;
     }
-    b == 4 && c == 2
+    if radix == 16 { 2 } else { 0 }
 }
 
 // A rule in place of a search: a constant table is built anew where it is used, and every call that writes or reads asks for a row.
@@ -62,9 +62,12 @@ pub(crate) fn find_pair(radix: u32, base: u32) -> FoundPair
     ensures { λ r. ⌜ ofFoundPair r ≡ findPair radix base pairs ⌝ }
 {
     let b = bits_of(radix);
-    let c = bits_of(base);
-    if in_table(b, c) {
-        return FoundPair::Row(Pair { radix, base, b, c });
+    if b == 0 {
+        return FoundPair::Unknown;
     }
-    FoundPair::Unknown
+    let c = base_bits(radix, base, b);
+    if c == 0 {
+        return FoundPair::Unknown;
+    }
+    FoundPair::Row(Pair { radix, base, b, c })
 }

@@ -1,5 +1,5 @@
 -- A text by its pieces: what the code knows of a checked format, of D and of a layout. Assumes nothing.
-use Prim.Native.Nat.{ℕ, zero, suc, _+_, _*_, _%_, _^_, _≤_, _<_}
+use Prim.Native.Nat.{ℕ, _+_, _*_, _%_, _^_, _≤_, _<_}
 use mathlib.Core.Path.{_≡_, refl, sym, ap, _∙_}
 use mathlib.Core.Bool.{Bool, true}
 use mathlib.Core.List.{List, _++_, append-nil}
@@ -27,7 +27,6 @@ use Rattle.lexical_write_float.proofs.PowerLaws.{power-is}
 pub record Known (F : NumberFormat) (o : Options) (c : CheckedFormat) : Type 0 where
   pub some-bits : 0 < c .b
   pub few-bits : c .b ≤ 5
-  pub radix-is : F .«mantissa_radix» ≡ 2 ^ c .b
   pub power-radix : isRadix (F .«exponent_radix») ≡ true
   pub few-least : least F o ≤ 1200
   pub few-most : o .«max_significant_digits» ≤ 1200
@@ -43,24 +42,12 @@ known F o c P = rw (P .is-settled) at-row
         record {
           some-bits = W .reads .pair .some-bits;
           few-bits = W .reads .pair .few-bits;
-          radix-is = W .reads .radix-is;
           power-radix = W .reads .power;
           few-least = W .least;
           few-most = W .most;
           low = refl;
           high = refl;
         }
-
--- the radix of a mantissa is a radix
-pub radix-known : (b : ℕ) → 0 < b → b ≤ 5 → isRadix (2 ^ b) ≡ true
-unfolding isRadix
-radix-known zero B K = absurd (omega arith)
-radix-known (suc zero) B K = refl
-radix-known (suc (suc zero)) B K = refl
-radix-known (suc (suc (suc zero))) B K = refl
-radix-known (suc (suc (suc (suc zero)))) B K = refl
-radix-known (suc (suc (suc (suc (suc zero))))) B K = refl
-radix-known (suc (suc (suc (suc (suc (suc b)))))) B K = absurd (omega arith)
 
 -- a mantissa shifted up by less than a digit fits 64 bits
 pub shift-below : (m k : ℕ) → m < 2 ^ 54 → k < 5 → m * 2 ^ k < 2 ^ 59

@@ -40,8 +40,8 @@ use lexical_util::sci_exp;
 use lexical_util::unsigned_abs;
 
 // D of a value: the mantissa is shifted up by e mod b, and what is left of e is a whole number of digits.
-fn digits_of(value: Magnitude, bits_per_digit: u32, radix: u32) -> Digits
-    requires { ⌜ (radix ≡ 2 ^ «bits_per_digit») × (0 < «bits_per_digit») × («bits_per_digit» ≤ 5) × (value .mantissa < 2 ^ 54) ⌝ }
+fn digits_of(value: Magnitude, bits_per_digit: u32) -> Digits
+    requires { ⌜ (0 < «bits_per_digit») × («bits_per_digit» ≤ 5) × (value .mantissa < 2 ^ 54) ⌝ }
     ensures { λ r. ⌜ (digitsOf r ≡ exactDigits «bits_per_digit» (value .mantissa) (value .exponent)) × Counted r ⌝ }
 {
     let shl = calculate_shl(value.exponent as i32, bits_per_digit);
@@ -49,7 +49,7 @@ fn digits_of(value: Magnitude, bits_per_digit: u32, radix: u32) -> Digits
     Digits {
         value: shifted,
         bits_per_digit,
-        count: lexical_write_integer::digit_count(shifted, radix),
+        count: lexical_write_integer::digit_log(shifted, bits_per_digit),
     }
 }
 
@@ -97,7 +97,7 @@ fn write_value(
 {
     let s = sci_exp(value);
     let p = digit_exponent(s, checked.b);
-    let digits = digits_of(value, checked.b, format.mantissa_radix);
+    let digits = digits_of(value, checked.b);
     let so_far = digits_so_far(value.mantissa, digits.count);
     let layout = choose_layout(format, checked, s);
     let plan = plan_of(layout, digits.count, p, so_far, format, options);

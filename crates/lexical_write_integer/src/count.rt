@@ -6,7 +6,7 @@ ghost use lib.Ieee.{size};
 ghost use lib.ListN.{length};
 ghost use Rattle.lexical_util.specs.Digit.{isRadix};
 ghost use Rattle.lexical_digits.specs.Digits.{digits};
-ghost use Rattle.lexical_digits.specs.Write.{digitCount};
+ghost use Rattle.lexical_digits.specs.Write.{digitCount, digitLog};
 use crate::decimal::decimal_count;
 use lexical_util::quotient;
 use lexical_util::significant_bits;
@@ -19,12 +19,12 @@ pub(crate) fn fast_log2(x: u64) -> u32
     if bits == 0 { 0 } else { bits - 1 }
 }
 
-// How many digits value has in radix 2^b.
-pub(crate) fn digit_log(value: u64, b: u32) -> usize
-    requires { ⌜ (0 < b) × (b ≤ 5) ⌝ }
-    ensures { λ r. ⌜ r ≡ length (digits (2 ^ b) value) ⌝ }
+// How many digits value has in radix 2^bits_per_digit. No radix has digits of no bits; there the definition has 1.
+pub fn digit_log(value: u64, bits_per_digit: u32) -> usize
+    ensures { λ r. ⌜ r ≡ digitLog value «bits_per_digit» ⌝ }
+    ensures digits { λ r. ⌜ (0 < «bits_per_digit» → r ≡ length (digits (2 ^ «bits_per_digit») value)) ⌝ }
 {
-    (quotient(fast_log2(value) as u64, b) + 1) as usize
+    (quotient(fast_log2(value) as u64, bits_per_digit) + 1) as usize
 }
 
 // The bits of a digit: b of radix 2^b.

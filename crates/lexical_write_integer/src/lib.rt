@@ -7,5 +7,6 @@ mod table;
 mod write;
 
 pub use count::digit_count;
+pub use count::digit_log;
 pub use mantissa::write_mantissa;
 pub use write::write_integer;

@@ -1,19 +1,17 @@
 -- `lexical_write_float::write::digits_of` meets its contract: the shifted mantissa fits, and spells D. Assumes nothing.
-use mathlib.Core.Bool.{true}
-use Rattle.lexical_util.specs.Digit.{isRadix}
 use Prim.Native.Nat.{_≤_, _<_, ℕ, _*_, _%_, _^_}
 use lib.IntN.{ℤ}
 use Rattle.lexical_util.proofs.DifferenceLaws.{widened}
-use mathlib.Core.Path.{_≡_, ap, _∙_}
+use mathlib.Core.Path.{_≡_, sym, ap, _∙_}
 use native.Mathlib.Omega.{arith}
 use mir.Syntax.{w16}
 use mir.Val.{SFits}
 use lib.ListN.{length}
 use Rattle.lexical_digits.specs.Digits.{numeral}
 use Rattle.lexical_text.specs.Value.{modulo, exactDigits}
-use Rattle.lexical_write_float.proofs.PowerLaws.{count-is}
+use Rattle.lexical_digits.proofs.DigitsLaws.{length-numeral}
 use Rattle.lexical_text.proofs.ValueLaws.{exact-few}
-use Rattle.lexical_write_float.proofs.TextLaws.{radix-known, shift-below, shift-fits}
+use Rattle.lexical_write_float.proofs.TextLaws.{shift-below, shift-fits}
 use borrow.Author.Needs.{needs}
 use Rattle.lexical_write_float.proofs.write.digits_of.Statement.{statement}
 use Rattle.lexical_write_float.proofs.write.digits_of.Tie as tie
@@ -28,7 +26,7 @@ shift-is : (c : tie.After-calculate-shl) → shifted c ≡ c .before .before .be
 shift-is c =
     let s = c .before .before .before in
     let a = s .args in
-    shift-fits (a .value .mantissa) (c .calculate-shl .result) (s .pre .3) (omega (arith, c .calculate-shl .ensures .1, s .pre .2))
+    shift-fits (a .value .mantissa) (c .calculate-shl .result) (s .pre .2) (omega (arith, c .calculate-shl .ensures .1, s .pre .1))
     ∙ ap (λ (k : ℕ). a .value .mantissa * 2 ^ k) (c .calculate-shl .ensures .0 ∙ ap (λ (z : ℤ). modulo z (a .bits-per-digit)) (widened (a .value .exponent) (fitted (c .before)) .1))
 
 cast-calculate-shl : tie.Need-cast-calculate-shl
@@ -43,8 +41,8 @@ cast-shifted c = search needs
 shl-shifted : tie.Need-shl-shifted
 shl-shifted c = search needs
 
-digit-count-requires : tie.Need-digit-count-requires
-digit-count-requires c κs = tt
+digit-log-requires : tie.Need-digit-log-requires
+digit-log-requires c κs = tt
 
 returns : tie.Need-returns
 unfolding exactDigits
@@ -52,12 +50,11 @@ returns c =
     let k = c .before .before in
     let s = k .before .before .before in
     let a = s .args in
-    let short : k .calculate-shl .result < 5 = omega (arith, k .calculate-shl .ensures .1, s .pre .2) in
-    let known : isRadix (a .radix) ≡ true = rw (s .pre .0) (radix-known (a .bits-per-digit) (s .pre .1) (s .pre .2)) in
-    let n : c .digit-count .result ≡ length (numeral (2 ^ a .bits-per-digit) (shifted k)) = rw (s .pre .0) at (c .digit-count .ensures ∙ count-is (a .radix) (shifted k) known) in
+    let short : k .calculate-shl .result < 5 = omega (arith, k .calculate-shl .ensures .1, s .pre .1) in
+    let n : c .digit-log .result ≡ length (numeral (2 ^ a .bits-per-digit) (shifted k)) = c .digit-log .ensures .1 (s .pre .0) ∙ sym (length-numeral (2 ^ a .bits-per-digit) (shifted k)) in
     let same = ap (numeral (2 ^ a .bits-per-digit)) (shift-is k) in
-    let few : length (numeral (2 ^ a .bits-per-digit) (a .value .mantissa * 2 ^ modulo (a .value .exponent) (a .bits-per-digit))) ≤ 64 = exact-few (a .bits-per-digit) (a .value .mantissa) (a .value .exponent) (s .pre .1) (s .pre .2) (s .pre .3) in
-    (same, record { some-bits = s .pre .1; few-bits = s .pre .2; count-is = n; few = rw (n, same) few; small = rw (shift-fits (a .value .mantissa) (k .calculate-shl .result) (s .pre .3) short) (shift-below (a .value .mantissa) (k .calculate-shl .result) (s .pre .3) short) })
+    let few : length (numeral (2 ^ a .bits-per-digit) (a .value .mantissa * 2 ^ modulo (a .value .exponent) (a .bits-per-digit))) ≤ 64 = exact-few (a .bits-per-digit) (a .value .mantissa) (a .value .exponent) (s .pre .0) (s .pre .1) (s .pre .2) in
+    (same, record { some-bits = s .pre .0; few-bits = s .pre .1; count-is = n; few = rw (n, same) few; small = rw (shift-fits (a .value .mantissa) (k .calculate-shl .result) (s .pre .2) short) (shift-below (a .value .mantissa) (k .calculate-shl .result) (s .pre .2) short) })
 
 pub digits-of-spec : {M : Type 1} → statement M
 digits-of-spec =
@@ -67,5 +64,5 @@ digits-of-spec =
     calculate-shl-requires
     cast-shifted
     shl-shifted
-    digit-count-requires
+    digit-log-requires
     returns)

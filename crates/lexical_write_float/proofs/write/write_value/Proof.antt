@@ -58,7 +58,7 @@ digit-exponent-requires : tie.Need-digit-exponent-requires
 digit-exponent-requires c κs = tt
 
 digits-of-requires : tie.Need-digits-of-requires
-digits-of-requires c κs = let s = start c in let K = format-known s in (K .radix-is, K .some-bits, K .few-bits, s .pre .1 .few)
+digits-of-requires c κs = let s = start c in let K = format-known s in (K .some-bits, K .few-bits, s .pre .1 .few)
 
 digits-so-far-requires : tie.Need-digits-so-far-requires
 digits-so-far-requires c κs = search needs

@@ -15,7 +15,7 @@ digit-bits-requires : tie.Need-digit-bits-requires
 digit-bits-requires c κs = (sym (c .before .is-radix .ensures) ∙ c .if2 .taken, search needs)
 
 digit-log-requires : tie.Need-digit-log-requires
-digit-log-requires c κs = search needs
+digit-log-requires c κs = tt
 
 returns : tie.Need-returns
 returns c = rw (c .before .if1 .taken) (c .decimal-count .ensures ∙ sym (count-decimal (c .before .before .args .value)))
@@ -24,7 +24,7 @@ returns-2 : tie.Need-returns-2
 returns-2 c =
     let t = c .before .before in
     let a = t .before .before .before .args in
-    c .digit-log .ensures ∙ rw (c .before .digit-bits .ensures .0) (sym (count-known (a .value) (a .radix) (sym (t .before .is-radix .ensures) ∙ t .if2 .taken)))
+    c .digit-log .ensures .1 (c .before .digit-bits .ensures .1) ∙ rw (c .before .digit-bits .ensures .0) (sym (count-known (a .value) (a .radix) (sym (t .before .is-radix .ensures) ∙ t .if2 .taken)))
 
 returns-3 : tie.Need-returns-3
 returns-3 c = let a = c .before .before .before .args in sym (count-unknown (a .value) (a .radix) (sym (c .before .is-radix .ensures) ∙ c .if2 .left))
