@@ -6,13 +6,6 @@ use cases::Case;
 #[repr(C)]
 #[derive(Clone, Copy)]
 pub struct Format {
-    max_significant_digits: u32,
-    min_significant_digits: u32,
-    positive_exponent_break: i32,
-    negative_exponent_break: i32,
-    mantissa_radix: u32,
-    exponent_base: u32,
-    exponent_radix: u32,
     required_exponent_notation: bool,
     no_exponent_notation: bool,
     required_exponent_sign: bool,
@@ -21,6 +14,13 @@ pub struct Format {
     trim_floats: bool,
     exponent: u8,
     decimal_point: u8,
+    mantissa_radix: u32,
+    exponent_base: u32,
+    max_significant_digits: u32,
+    min_significant_digits: u32,
+    positive_exponent_break: i32,
+    negative_exponent_break: i32,
+    exponent_radix: u32,
 }
 
 /// `Answer` of the crate `exports`: the number is 0 where nothing was refused, and value then the

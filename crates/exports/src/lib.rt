@@ -12,13 +12,6 @@ use lexical_util::Written;
 // A number format and options in one struct, in the order of their own fields, so that they are copied as they stand. No enum crosses, so the round mode is a flag.
 #[repr(C)]
 pub struct Format {
-    pub max_significant_digits: u32,
-    pub min_significant_digits: u32,
-    pub positive_exponent_break: i32,
-    pub negative_exponent_break: i32,
-    pub mantissa_radix: u32,
-    pub exponent_base: u32,
-    pub exponent_radix: u32,
     pub required_exponent_notation: bool,
     pub no_exponent_notation: bool,
     pub required_exponent_sign: bool,
@@ -27,6 +20,13 @@ pub struct Format {
     pub trim_floats: bool,
     pub exponent: u8,
     pub decimal_point: u8,
+    pub mantissa_radix: u32,
+    pub exponent_base: u32,
+    pub max_significant_digits: u32,
+    pub min_significant_digits: u32,
+    pub positive_exponent_break: i32,
+    pub negative_exponent_break: i32,
+    pub exponent_radix: u32,
 }
 
 // The number is 0 where nothing was refused, and value then the length written.

@@ -10,9 +10,10 @@ mode-of-requires c κs = search needs
 returns : tie.Need-returns
 returns c =
     let f = c .before .before .args .format in
-    let given = c .struct-told .given in
-    let high = read-back (f .«positive_exponent_break») (given .1 .1 .0 .1) in
-    let low = read-back (f .«negative_exponent_break») (given .1 .1 .1 .0 .1) in
+    -- the counts, the breaks and the exponent's radix stand last
+    let last = c .struct-told .given .1 .1 .1 .1 .1 .1 .1 .1 .1 .1 in
+    let high = read-back (f .«positive_exponent_break») (last .1 .1 .0 .1) in
+    let low = read-back (f .«negative_exponent_break») (last .1 .1 .1 .0 .1) in
     simp (high, low, c .before .mode-of .ensures)
 
 pub options-of-spec : {M : Type 1} → statement M
