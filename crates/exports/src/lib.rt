@@ -9,7 +9,7 @@ use lexical_format::Options;
 use lexical_format::RoundMode;
 use lexical_util::Written;
 
-// A number format and options in one struct, in the order of their own fields, so that they are copied as they stand. No enum crosses, so the round mode is a flag.
+// A number format and options in one struct. No enum crosses, so the round mode is a flag. In this order no load of the call spans two of the 16-byte stores by which its caller passes the struct.
 #[repr(C)]
 pub struct Format {
     pub required_exponent_notation: bool,

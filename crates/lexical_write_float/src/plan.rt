@@ -4,7 +4,7 @@ ghost use mathlib.Core.Bool.{true};
 ghost use mathlib.Core.List.{List, _++_};
 ghost use Prim.Native.Nat.{ℕ, _+_, _≤_, _<_};
 ghost use lib.ListN.{length};
-ghost use Rattle.lexical_util.specs.Answer.{done, written, held, ofWritten};
+ghost use Rattle.lexical_util.specs.Answer.{done, held};
 ghost use Rattle.lexical_util.specs.Digit.{isRadix};
 ghost use Rattle.lexical_write_float.specs.Code.{Puts, Counted, digitsOf, Small, fractionText, planText, tailText};
 use crate::pieces::put_byte;
@@ -16,8 +16,6 @@ use lexical_format::NumberFormat;
 use lexical_format::Options;
 use lexical_text::Layout;
 use lexical_util::BaseExponent;
-use lexical_util::Refusal;
-use lexical_util::Written;
 
 // D by the number that it spells in radix 2^bits_per_digit, and how many digits it has.
 pub(crate) struct Digits {
@@ -80,7 +78,7 @@ pub(crate) fn put_plan(buffer: &mut [u8], digits: Digits, plan: Plan, point: u8)
     put_fraction(buffer, fraction, digits, plan, point)
 }
 
-// A planned text, and the exponent where the layout has one; or refusal 8, which leaves every byte as it was.
+// A planned text, and the exponent where the layout has one, written if there is room for it. The answer is its length either way.
 pub(crate) fn write_plan(
     digits: Digits,
     plan: Plan,
@@ -89,9 +87,9 @@ pub(crate) fn write_plan(
     format: NumberFormat,
     options: Options,
     buffer: &mut [u8],
-) -> Written
+) -> usize
     requires { ⌜ Counted digits × Small (digits .count) plan × (isRadix (format .«exponent_radix») ≡ true) × (exponent .1 < 8192) ⌝ }
-    ensures { λ r. ⌜ ofWritten r ≡ written (done (planText (options .«decimal_point») plan (digitsOf digits) ++ tailText layout (options .exponent) (exponent .0) (format .«required_exponent_sign») (format .«exponent_radix») (exponent .1))) (now (buffer .entry)) ⌝ }
+    ensures { λ r. ⌜ r ≡ length (planText (options .«decimal_point») plan (digitsOf digits) ++ tailText layout (options .exponent) (exponent .0) (format .«required_exponent_sign») (format .«exponent_radix») (exponent .1)) ⌝ }
     ensures { λ _. ⌜ now (buffer .exit) ≡ held (done (planText (options .«decimal_point») plan (digitsOf digits) ++ tailText layout (options .exponent) (exponent .0) (format .«required_exponent_sign») (format .«exponent_radix») (exponent .1))) (now (buffer .entry)) ⌝ }
 {
     let plus = format.required_exponent_sign;
@@ -99,10 +97,7 @@ pub(crate) fn write_plan(
     let tail = exponent_length(layout, exponent, plus, radix);
     let length = plan_length(digits.count, plan) + tail;
     if length > buffer.len() {
-        return Written::Refused(Refusal {
-            number: 8,
-            place: 0,
-        });
+        return length;
     }
     let mark = put_plan(buffer, digits, plan, options.decimal_point);
     write_exponent(
@@ -114,5 +109,5 @@ pub(crate) fn write_plan(
         plus,
         radix,
     );
-    Written::Length(length)
+    length
 }

@@ -83,16 +83,16 @@ fn plan_of(
     }
 }
 
-// The text of a value in normal form.
+// The text of a value in normal form, if there is room for it, and its length.
 fn write_value(
     value: Magnitude,
     format: NumberFormat,
     options: Options,
     checked: CheckedFormat,
     buffer: &mut [u8],
-) -> Written
+) -> usize
     requires { ⌜ Passed format options checked × Ranged (value .mantissa) (value .exponent) ⌝ }
-    ensures { λ r. ⌜ ofWritten r ≡ written (done (text format options (rowOf checked) (value .mantissa) (value .exponent))) (now (buffer .entry)) ⌝ }
+    ensures { λ r. ⌜ r ≡ length (text format options (rowOf checked) (value .mantissa) (value .exponent)) ⌝ }
     ensures { λ _. ⌜ now (buffer .exit) ≡ held (done (text format options (rowOf checked) (value .mantissa) (value .exponent))) (now (buffer .entry)) ⌝ }
 {
     let s = sci_exp(value);
@@ -105,16 +105,16 @@ fn write_value(
     write_plan(digits, plan, layout, exponent, format, options, buffer)
 }
 
-// The text of a finite float with the sign bit clear, by its parts.
+// The text of a finite float with the sign bit clear, by its parts, if there is room for it, and its length.
 fn write_float(
     value: Magnitude,
     format: NumberFormat,
     options: Options,
     checked: CheckedFormat,
     buffer: &mut [u8],
-) -> Written
+) -> usize
     requires { ⌜ Passed format options checked × FloatParts value ⌝ }
-    ensures { λ r. ⌜ ofWritten r ≡ written (done (magnitudeText format options checked value)) (now (buffer .entry)) ⌝ }
+    ensures { λ r. ⌜ r ≡ length (magnitudeText format options checked value) ⌝ }
     ensures { λ _. ⌜ now (buffer .exit) ≡ held (done (magnitudeText format options checked value)) (now (buffer .entry)) ⌝ }
 {
     let exact = normalized(value);
@@ -122,6 +122,19 @@ fn write_float(
     let mode = options.round_mode;
     let limited = truncate_and_round(exact, checked.b, digits, mode);
     write_value(limited, format, options, checked, buffer)
+}
+
+// The answer for a text of so many bytes and a buffer of some room: the length, or refusal 8.
+fn written_in(room: usize, count: usize) -> Written
+    ensures { λ r. ⌜ ((t d : List ℕ) → length d ≡ room → length t ≡ count → ofWritten r ≡ written (done t) d) ⌝ }
+{
+    if count > room {
+        return Written::Refused(Refusal {
+            number: 8,
+            place: 0,
+        });
+    }
+    Written::Length(count)
 }
 
 // The text of a float by its parts, in a format that passed the check; 7 where it is not finite, or its sign bit is set.
@@ -136,8 +149,12 @@ fn write_checked(
     ensures { λ r. ⌜ ofWritten r ≡ written (partsText format options checked parts) (now (buffer .entry)) ⌝ }
     ensures { λ _. ⌜ now (buffer .exit) ≡ held (partsText format options checked parts) (now (buffer .entry)) ⌝ }
 {
+    let room = buffer.len();
     match parts {
-        Parts::Plain(value) => write_float(value, format, options, checked, buffer),
+        Parts::Plain(value) => {
+            let count = write_float(value, format, options, checked, buffer);
+            written_in(room, count)
+        }
         Parts::Negative(_) => Written::Refused(Refusal {
             number: 7,
             place: 0,

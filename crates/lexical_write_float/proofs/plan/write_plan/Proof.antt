@@ -1,12 +1,11 @@
 -- `lexical_write_float::plan::write_plan` meets its contract: plan and exponent are measured, and put where they have room. Assumes nothing.
 use Prim.Native.Nat.{ℕ, _+_, zero-le}
-use mathlib.Core.Path.{_≡_, sym, ap, _∙_}
+use mathlib.Core.Path.{_≡_, sym}
 use mathlib.Core.List.{List, _++_}
 use native.Mathlib.Omega.{arith}
 use lib.ListN.{length, length-append}
-use Rattle.lexical_util.specs.Answer.{done}
 use Rattle.lexical_write_float.specs.Code.{digitsOf, planText, tailText}
-use Rattle.lexical_write_float.proofs.PutLaws.{puts-more, answered, kept, short, short-held}
+use Rattle.lexical_write_float.proofs.PutLaws.{puts-more, kept, short-held}
 use borrow.Author.Needs.{needs}
 use Rattle.lexical_write_float.proofs.plan.write_plan.Statement.{statement}
 use Rattle.lexical_write_float.proofs.plan.write_plan.Tie as tie
@@ -40,7 +39,7 @@ returns : tie.Need-returns
 returns c =
     let m = c .before in
     let s = m .before .before .before in
-    (short (front s ++ tail s) (s .args .buffer .now) (omega (arith, measured m)), short-held (front s ++ tail s) (s .args .buffer .now) (omega (arith, measured m)))
+    (measured m, short-held (front s ++ tail s) (s .args .buffer .now) (omega (arith, measured m)))
 
 put-plan-requires : tie.Need-put-plan-requires
 put-plan-requires c κs =
@@ -65,7 +64,7 @@ returns-2 c =
     let m = p .before .before .before in
     let s = m .before .before .before in
     let put = puts-more _ _ _ zero-le (p .put-plan .ensures) (x .write-exponent .ensures) in
-    (ap (λ (n : ℕ). done n) (measured m) ∙ answered (front s ++ tail s) (s .args .buffer .now) (omega (arith, measured m)), kept (front s ++ tail s) (s .args .buffer .now) _ (omega (arith, measured m)) (put .out-is))
+    (measured m, kept (front s ++ tail s) (s .args .buffer .now) _ (omega (arith, measured m)) (put .out-is))
 
 pub write-plan-spec : {M : Type 1} → statement M
 write-plan-spec =

@@ -2,7 +2,8 @@
 use mathlib.Core.Path.{ap, _∙_}
 use mathlib.Core.List.{List}
 use Prim.Native.Nat.{ℕ}
-use Rattle.lexical_util.specs.Answer.{done, written, held}
+use lib.ListN.{length}
+use Rattle.lexical_util.specs.Answer.{done, held}
 use Rattle.lexical_write_float.proofs.FloatLaws.{normal-near, limited-near, limited-text}
 use Rattle.lexical_write_float.proofs.TextLaws.{known}
 use borrow.Author.Needs.{needs}
@@ -37,7 +38,7 @@ returns c =
     let s = n .before .before in
     let a = s .args in
     let same = limited-text _ (s .pre .1) _ (n .normalized .ensures) (a .format) (a .options) (a .checked) _ (t .truncate-and-round .ensures) in
-    (w .write-value .ensures .0 ∙ ap (λ (x : List ℕ). written (done x) (a .buffer .now)) same, w .write-value .ensures .1 ∙ ap (λ (x : List ℕ). held (done x) (a .buffer .now)) same)
+    (w .write-value .ensures .0 ∙ ap length same, w .write-value .ensures .1 ∙ ap (λ (x : List ℕ). held (done x) (a .buffer .now)) same)
 
 pub write-float-spec : {M : Type 1} → statement M
 write-float-spec =

@@ -3,7 +3,8 @@ use Prim.Native.Nat.{ℕ, _≤_}
 use mathlib.Core.Path.{_≡_, sym, ap, _∙_}
 use mathlib.Core.List.{List, _++_}
 use lib.IntN.{natAbs}
-use Rattle.lexical_util.specs.Answer.{done, written, held}
+use lib.ListN.{length}
+use Rattle.lexical_util.specs.Answer.{done, held}
 use Rattle.lexical_util.specs.Exponent.{scale, place}
 use Rattle.lexical_text.specs.Text.{point, layoutOf, text}
 use Rattle.lexical_write_float.specs.Code.{rowOf, digitsOf, planText, bodyText, tailText}
@@ -96,7 +97,7 @@ returns c =
     let a = s .args in
     let tail : List ℕ = tailText (p .before .choose-layout .result) (a .options .exponent) (b .base-exponent .result .0) (a .format .«required_exponent_sign») (a .format .«exponent_radix») (b .base-exponent .result .1) in
     let same : body p ++ tail ≡ whole s = ap (λ (t : List ℕ). t ++ tail) (planned p) ∙ laid-text _ _ _ _ _ _ _ _ _ (laid p) _ _ (b .base-exponent .ensures .0) (b .base-exponent .ensures .1 .0) in
-    (w .write-plan .ensures .0 ∙ ap (λ (t : List ℕ). written (done t) (a .buffer .now)) same, w .write-plan .ensures .1 ∙ ap (λ (t : List ℕ). held (done t) (a .buffer .now)) same)
+    (w .write-plan .ensures .0 ∙ ap length same, w .write-plan .ensures .1 ∙ ap (λ (t : List ℕ). held (done t) (a .buffer .now)) same)
 
 pub write-value-spec : {M : Type 1} → statement M
 write-value-spec =
