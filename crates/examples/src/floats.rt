@@ -1,10 +1,10 @@
 // Floats at the edges of each width: their parts, and the float made of these again.
 use crate::print;
-use lexical_float::MadeF32;
-use lexical_float::MadeF64;
 use lexical_float::Parts;
-use lexical_float::f32_from_parts;
-use lexical_float::f64_from_parts;
+use lexical_pack::MadeF32;
+use lexical_pack::MadeF64;
+use lexical_pack::f32_from_parts;
+use lexical_pack::f64_from_parts;
 use lexical_util::Magnitude;
 
 // The float with these bits, any NaN where they are a NaN's.

@@ -1,29 +1,24 @@
 -- Masks, shifts and signed sums on a bit pattern, as the code has them, are the fields of it. One proof for both widths. Assumes nothing.
 use Prim.Native.Nat.{ℕ, suc, _+_, _-_, _*_, _/_, _%_, _^_, _≤_, _<_}
 use mathlib.Core.Path.{_≡_, sym, ap, _∙_}
-use mathlib.Core.Bool.{Bool, true, false}
+use mathlib.Core.Bool.{Bool, false}
 use native.Mathlib.Nat.{mod-lt, mul-pos, zero-lt-suc}
 use native.Mathlib.Omega.{arith}
 use borrow.Author.Tests.{le-leb, lt-leb, eq-eqb, ne-eqb}
 use lib.Dec.{leb}
 use lib.Bits.{bitAnd, and-mask}
-use lib.IntN.{ℤ, pos, _+ℤ_, _-ℤ_}
-use lib.Signed.{ltZ}
+use lib.IntN.{pos, _-ℤ_}
 use lib.Pow.{pow-pos}
 use lib.Ieee.{Format, binary32, binary64, prec, emax, low, hid, ones, top, minus, ofBits}
-use mir.Syntax.{w16, w64}
-use mir.Val.{Fits, SFits, toZ, ofZ}
+use mir.Syntax.{w16}
+use mir.Val.{SFits, toZ, ofZ}
 use mir.Facts.{toZ-ofZ}
 use Rattle.lexical_float.specs.declared.encoding.Encoding.{Encoding}
 use Rattle.lexical_util.specs.declared.exponent.Magnitude.{Magnitude}
-use Rattle.lexical_float.specs.declared.pattern.Pattern.{Pattern}
 use Rattle.lexical_float.specs.declared.num.Parts.the-variants.{Plain, Negative, Special}
 use Rattle.lexical_float.specs.Encoding.{encodingOf, bitsOf}
-use Rattle.lexical_float.specs.Pattern.{BitsOf, IsBits}
-use Rattle.lexical_float.specs.Parts.{magnitudeOf, partsOf, fitting}
+use Rattle.lexical_float.specs.Parts.{magnitudeOf, partsOf}
 use Rattle.lexical_util.proofs.DifferenceLaws.{minus-fits, difference-fits, difference-is}
-use Rattle.lexical_float.proofs.GapLaws.{minus-add}
-use Rattle.lexical_float.proofs.PatternLaws.{few-is, too-long, no-lead, too-large, too-low, past, sum-is, sum-over}
 use Rattle.lexical_float.proofs.PartsLaws.{signed, finite-below, magnitude-bits, parts-bits, special-bits, sign-and-rest}
 
 -- what is known of the two widths' numbers
@@ -45,7 +40,7 @@ module _ (f : Format) (E : Encoding) (is : E ≡ encodingOf f) where
   hidden-few = rw is (small f .hidden)
 
   -- the denormals' exponent, as the code reads it
-  least : toZ w16 (ofZ w16 (E .«denormal_exponent»)) ≡ minus 0 (low f)
+  pub least : toZ w16 (ofZ w16 (E .«denormal_exponent»)) ≡ minus 0 (low f)
   least = rw is (toZ-ofZ (minus-fits w16 0 (low f) (omega arith) (omega (arith, small f .least))))
 
 -- ---- at the width's own masks, the code's answer is the magnitude
@@ -91,7 +86,7 @@ module _ (f : Format) (E : Encoding) (is : E ≡ encodingOf f) where
   infinity : E .«exponent_mask» ≡ ones f * hid f
   infinity = ap (λ (E : Encoding). E .«exponent_mask») is
 
-  sign : E .«sign_mask» ≡ top f
+  pub sign : E .«sign_mask» ≡ top f
   sign = ap (λ (E : Encoding). E .«sign_mask») is
 
   pub sign-some : 1 ≤ E .«sign_mask»
@@ -125,48 +120,3 @@ module _ (f : Format) (E : Encoding) (is : E ≡ encodingOf f) where
     special-is few h =
         let below-top : below-sign < top f = rw rest (mod-lt bits (rw sign at sign-some)) in
         sym (ap (λ (x : ℕ). partsOf f (ofBits f x)) (split few) ∙ special-bits f (leb (top f) bits) below-sign (rw infinity at h) below-top)
-
--- ---- the way back: the code's tests tell which m and k fit
-module _ (f : Format) (E : Encoding) (is : E ≡ encodingOf f) (m k : ℕ) where
-  hidden : E .«hidden_bit_mask» ≡ hid f
-  hidden = ap (λ (E : Encoding). E .«hidden_bit_mask») is
-
-  pub twice-fits : Fits w64 (2 * E .«hidden_bit_mask»)
-  twice-fits = record { fits = omega (arith, hidden, small f .hidden) }
-
-  pub long-no : 2 * E .«hidden_bit_mask» < m → fitting f m (minus k (low f)) ≡ false
-  long-no h = too-long f m k (rw hidden at h)
-
-  pub denormal-bits : m < E .«hidden_bit_mask» → k ≡ 0 → BitsOf f m (minus k (low f)) m
-  denormal-bits h e = few-is f m k (rw hidden at h) e
-
-  pub lead-no : m < E .«hidden_bit_mask» → (k ≡ 0 → ⊥) → fitting f m (minus k (low f)) ≡ false
-  lead-no h l = no-lead f m k (rw hidden at h) l
-
-  pub lift-no : E .«hidden_bit_mask» ≤ m → 2047 < k → fitting f m (minus k (low f)) ≡ false
-  lift-no h l = too-large f m k (past f m k (rw hidden at h) (omega (arith, small f .largest)))
-
-  pub bits-yes : E .«hidden_bit_mask» ≤ m → m ≤ 2 * E .«hidden_bit_mask» → k * E .«hidden_bit_mask» + m < E .«exponent_mask» → BitsOf f m (minus k (low f)) (k * E .«hidden_bit_mask» + m)
-  bits-yes lo hi h = rw is (sum-is f m k (rw is at lo) (rw is at hi) (rw is at h))
-
-  pub bits-no : E .«hidden_bit_mask» ≤ m → m ≤ 2 * E .«hidden_bit_mask» → E .«exponent_mask» ≤ k * E .«hidden_bit_mask» + m → fitting f m (minus k (low f)) ≡ false
-  bits-no lo hi h = sum-over f m k (rw is at lo) (rw is at hi) (rw is at h)
-
--- ---- a sign joined to the bits below it
-module _ (f : Format) (E : Encoding) (is : E ≡ encodingOf f) (n : ℕ) where
-  pub signed-fits : n < ones f * hid f → Fits w64 (E .«sign_mask» + n)
-  signed-fits h = record { fits = omega (arith, sign f E is, small f .words, finite-below f n h .0) }
-
-  pub sign-set : (s : Bool) → s ≡ true → E .«sign_mask» + n ≡ bitsOf f s n
-  sign-set s e = rw (e, sign f E is)
-
-  pub sign-clear : (s : Bool) → s ≡ false → n ≡ bitsOf f s n
-  sign-clear s e = rw e
-
--- ---- an exponent against the least one, both as the code has them
-module _ (f : Format) (E : Encoding) (is : E ≡ encodingOf f) (m : ℕ) (e : ℤ) (h : SFits w16 e) where
-  pub low-no : ltZ (toZ w16 (ofZ w16 e)) (toZ w16 (ofZ w16 (E .«denormal_exponent»))) ≡ true → fitting f m e ≡ false
-  low-no t = too-low f m e (rw (toZ-ofZ h, least f E is) at t)
-
-  pub lift-is : (k : ℕ) (r : Pattern) → toZ w16 (ofZ w16 e) ≡ toZ w16 (ofZ w16 (E .«denormal_exponent»)) +ℤ pos k → IsBits f m (minus k (low f)) r → IsBits f m e r
-  lift-is k r l b = rw (sym (toZ-ofZ h) ∙ l ∙ ap (λ (z : ℤ). z +ℤ pos k) (least f E is) ∙ minus-add k (low f)) b

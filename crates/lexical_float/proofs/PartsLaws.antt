@@ -7,7 +7,7 @@ use native.Mathlib.Numerals.{add-one}
 use native.Mathlib.Omega.{arith}
 use borrow.Author.Tests.{le-leb, lt-leb, eq-eqb, ne-eqb, le-ltb}
 use lib.Dec.{T, leb, eqb}
-use lib.IntN.{ℤ}
+use lib.IntN.{ℤ, pos, negsuc}
 use lib.Pow.{pow-pos}
 use lib.Ieee.{Float, nan, inf, fin, Format, prec, low, hid, ones, top, up, down, minus, odd, ofFields, ofBits, toBits, fits, isNan, ne, nanBits}
 use lib.Ieee.Bits.{cond-no, ofBits-toBits, toBits-ofBits, toBits-lt, nanBits-above}
@@ -22,8 +22,7 @@ use Rattle.lexical_float.specs.Fields.{mantissa, exponent}
 use Rattle.lexical_float.specs.Encoding.{bitsOf}
 use Rattle.lexical_float.specs.Parts.{magnitudeOf, partsOf, IsValue}
 use Rattle.lexical_float.specs.Claims.{PartsAreTheValue}
-use Rattle.lexical_util.proofs.DifferenceLaws.{by-larger}
-use Rattle.lexical_float.proofs.GapLaws.{minus-suc}
+use Rattle.lexical_util.proofs.DifferenceLaws.{by-larger, minus-ge, minus-lt}
 use Rattle.lexical_float.proofs.FloatLaws.{same-fraction}
 
 -- ---- a bit pattern: the sign, and the bits n below it
@@ -84,6 +83,12 @@ value-shift (inf t) s q a l h = h
 value-shift (fin t m e) s q a l h =
     let w = minus a l in
     (h .0, same-fraction (q * 2 ^ a) (2 ^ l) (m * up e) (down e) (q * up w) (down w) (pow-pos l) (sym (h .1)) (sym (minus-val q a l)))
+
+minus-suc : (a b : ℕ) → minus (suc a) (suc b) ≡ minus a b
+minus-suc a b =
+    by-larger a b (minus (suc a) (suc b) ≡ minus a b)
+    (λ h. minus-ge (suc a) (suc b) (omega arith) ∙ ap pos (omega arith) ∙ sym (minus-ge a b h))
+    (λ h. minus-lt (suc a) (suc b) (omega arith) ∙ ap negsuc (omega arith) ∙ sym (minus-lt a b h))
 
 -- the exponent's field counts up from the denormals' exponent, and has a 1 too many where there is a leading bit
 pub lifted : (f : Format) (x : ℕ) → cond (eqb x 0) (minus 0 (low f)) (minus x (suc (low f))) ≡ minus (x - 1) (low f)

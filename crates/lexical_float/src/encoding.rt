@@ -7,13 +7,13 @@ ghost use Rattle.lexical_float.specs.Parts.{magnitudeOf, partsOf};
 use crate::num::Parts;
 use lexical_util::Magnitude;
 
-pub(crate) enum Width {
+pub enum Width {
     Binary32,
     Binary64,
 }
 
 // Where the fields of a bit pattern stand, and how its exponent is counted. The exponent's mask is also the infinity's bits.
-pub(crate) struct Encoding {
+pub struct Encoding {
     pub mantissa_size: u32,
     pub hidden_bit_mask: u64,
     pub exponent_mask: u64,
@@ -22,7 +22,7 @@ pub(crate) struct Encoding {
     pub denormal_exponent: i16,
 }
 
-pub(crate) fn encoding_of(width: Width) -> Encoding
+pub fn encoding_of(width: Width) -> Encoding
     ensures { λ r. ⌜ r ≡ encodingOf (formatOf width) ⌝ }
 {
     match width {

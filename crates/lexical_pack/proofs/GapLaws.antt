@@ -13,12 +13,6 @@ use mir.Val.{Fits, SFits, toZ, ofZ}
 use mir.Facts.{toZ-ofZ}
 use Rattle.lexical_util.proofs.DifferenceLaws.{by-larger, minus-ge, minus-lt, nat-less, minus-is, gap-above, widened}
 
-pub minus-suc : (a b : ℕ) → minus (suc a) (suc b) ≡ minus a b
-minus-suc a b =
-    by-larger a b (minus (suc a) (suc b) ≡ minus a b)
-    (λ h. minus-ge (suc a) (suc b) (omega arith) ∙ ap pos (omega arith) ∙ sym (minus-ge a b h))
-    (λ h. minus-lt (suc a) (suc b) (omega arith) ∙ ap negsuc (omega arith) ∙ sym (minus-lt a b h))
-
 -- a more than 0 - l
 pub minus-add : (a l : ℕ) → minus 0 l +ℤ pos a ≡ minus a l
 minus-add a l = ap (λ (z : ℤ). z +ℤ pos a) (sym (minus-is 0 l) ∙ +ℤ-idl (negℤ (pos l))) ∙ +ℤ-comm (negℤ (pos l)) (pos a) ∙ minus-is a l

@@ -1,13 +1,14 @@
--- `lexical_float::pattern::bits_of_units` meets its contract: its tests tell which mantissa and exponent fit. Assumes nothing.
+-- `lexical_pack::pattern::bits_of_units` meets its contract: its tests tell which mantissa and exponent fit. Assumes nothing.
 use Prim.Native.Nat.{ℕ, _*_, _≤_}
 use native.Mathlib.Nat.{mul-le-mul-right}
 use native.Mathlib.Omega.{arith}
 use borrow.Author.Needs.{needs}
 use lib.Ieee.{Format}
 use Rattle.lexical_float.specs.Encoding.{formatOf}
-use Rattle.lexical_float.proofs.EncodingLaws as L
-use Rattle.lexical_float.proofs.pattern.bits_of_units.Statement.{statement}
-use Rattle.lexical_float.proofs.pattern.bits_of_units.Tie as tie
+use Rattle.lexical_float.proofs.EncodingLaws.{hidden-few}
+use Rattle.lexical_pack.proofs.PackLaws as L
+use Rattle.lexical_pack.proofs.pattern.bits_of_units.Statement.{statement}
+use Rattle.lexical_pack.proofs.pattern.bits_of_units.Tie as tie
 
 abbrev f : tie.Start → Format
 f c = formatOf (c .args .width)
@@ -17,7 +18,7 @@ hidden c = c .before .before .before .encoding-of .result .«hidden_bit_mask»
 
 -- where the lift is small, the sum fits
 few : (c : tie.Else4) → (hidden c ≤ 4503599627370496) × (c .before .before .before .before .args .lift * hidden c ≤ 2047 * hidden c)
-few c = let k = c .before .before .before in (L.hidden-few (f (k .before)) _ (k .encoding-of .ensures), mul-le-mul-right (hidden c) (c .if4 .left))
+few c = let k = c .before .before .before in (hidden-few (f (k .before)) _ (k .encoding-of .ensures), mul-le-mul-right (hidden c) (c .if4 .left))
 
 encoding-of-requires : tie.Need-encoding-of-requires
 encoding-of-requires c κs = search needs

@@ -1,12 +1,12 @@
--- `lexical_float::pattern::bits_of_parts` meets its contract: the bits of the magnitude, with the sign. Assumes nothing.
+-- `lexical_pack::pattern::bits_of_parts` meets its contract: the bits of the magnitude, with the sign. Assumes nothing.
 use mathlib.Core.Path.{subst}
 use borrow.Author.Needs.{needs}
 use lib.Ieee.{Format}
 use Rattle.lexical_float.specs.Encoding.{formatOf}
-use Rattle.lexical_float.specs.Pattern.{BitsOf, IsBits}
-use Rattle.lexical_float.proofs.PatternLaws.{with-sign}
-use Rattle.lexical_float.proofs.pattern.bits_of_parts.Statement.{statement}
-use Rattle.lexical_float.proofs.pattern.bits_of_parts.Tie as tie
+use Rattle.lexical_pack.specs.Pattern.{BitsOf, IsBits}
+use Rattle.lexical_pack.proofs.PatternLaws.{with-sign}
+use Rattle.lexical_pack.proofs.pattern.bits_of_parts.Statement.{statement}
+use Rattle.lexical_pack.proofs.pattern.bits_of_parts.Tie as tie
 
 abbrev f : tie.Start → Format
 f c = formatOf (c .args .width)

@@ -1,12 +1,12 @@
--- `lexical_float::num::f32_from_parts` meets its contract: its bits are those of the float with that value. Assumes nothing.
+-- `lexical_pack::pack::f32_from_parts` meets its contract: its bits are those of the float with that value. Assumes nothing.
 use mathlib.Core.Path.{subst}
 use native.Mathlib.Omega.{arith}
 use borrow.Author.Needs.{needs}
 use lib.Ieee.{binary32}
-use Rattle.lexical_float.specs.Pattern.{PatternOf, IsPattern}
-use Rattle.lexical_float.proofs.PatternLaws.{float-yes, float-no}
-use Rattle.lexical_float.proofs.num.f32_from_parts.Statement.{statement}
-use Rattle.lexical_float.proofs.num.f32_from_parts.Tie as tie
+use Rattle.lexical_pack.specs.Pattern.{PatternOf, IsPattern}
+use Rattle.lexical_pack.proofs.PatternLaws.{float-yes, float-no}
+use Rattle.lexical_pack.proofs.pack.f32_from_parts.Statement.{statement}
+use Rattle.lexical_pack.proofs.pack.f32_from_parts.Tie as tie
 
 found : (c : tie.After-pattern) → PatternOf binary32 (c .before .before .before .args .negative) (c .before .before .before .args .value) (c .pattern .given .0 .0)
 found c = subst (IsPattern binary32 _ _) (c .pattern .given .1) (c .before .before .bits-of-parts .ensures)

@@ -5,10 +5,10 @@ ghost use Prim.Native.Nat.{_*_, _<_};
 ghost use lib.IntN.{pos, _+ℤ_};
 ghost use lib.Signed.{ltZ};
 ghost use lib.Ieee.{low, hid, ones, minus};
 ghost use Rattle.lexical_float.specs.Encoding.{formatOf, bitsOf};
-ghost use Rattle.lexical_float.specs.Pattern.{IsBits, IsPattern};
-use crate::encoding::Width;
-use crate::encoding::encoding_of;
+ghost use Rattle.lexical_pack.specs.Pattern.{IsBits, IsPattern};
+use lexical_float::Width;
+use lexical_float::encoding_of;
 use lexical_util::Magnitude;
 
 // The bits of a magnitude below the sign, if it fits.

@@ -1,8 +1,8 @@
--- `lexical_float::pattern::lift_of` meets its contract. Assumes nothing.
+-- `lexical_pack::pattern::lift_of` meets its contract. Assumes nothing.
 use Rattle.lexical_util.proofs.DifferenceLaws.{widened}
-use Rattle.lexical_float.proofs.GapLaws as L
-use Rattle.lexical_float.proofs.pattern.lift_of.Statement.{statement}
-use Rattle.lexical_float.proofs.pattern.lift_of.Tie as tie
+use Rattle.lexical_pack.proofs.GapLaws as L
+use Rattle.lexical_pack.proofs.pattern.lift_of.Statement.{statement}
+use Rattle.lexical_pack.proofs.pattern.lift_of.Tie as tie
 
 cast-result : tie.Need-cast-result
 cast-result c = widened (c .args .exponent) (c .fits .exponent) .0

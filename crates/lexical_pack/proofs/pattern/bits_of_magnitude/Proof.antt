@@ -1,12 +1,12 @@
--- `lexical_float::pattern::bits_of_magnitude` meets its contract: an exponent below the least one fits nothing, and any other is counted from it. Assumes nothing.
+-- `lexical_pack::pattern::bits_of_magnitude` meets its contract: an exponent below the least one fits nothing, and any other is counted from it. Assumes nothing.
 use borrow.Author.Needs.{needs}
 use lib.Ieee.{Format}
 use mir.Syntax.{w16}
 use mir.Val.{SFits}
 use Rattle.lexical_float.specs.Encoding.{formatOf}
-use Rattle.lexical_float.proofs.EncodingLaws as L
-use Rattle.lexical_float.proofs.pattern.bits_of_magnitude.Statement.{statement}
-use Rattle.lexical_float.proofs.pattern.bits_of_magnitude.Tie as tie
+use Rattle.lexical_pack.proofs.PackLaws as L
+use Rattle.lexical_pack.proofs.pattern.bits_of_magnitude.Statement.{statement}
+use Rattle.lexical_pack.proofs.pattern.bits_of_magnitude.Tie as tie
 
 abbrev f : tie.Start → Format
 f c = formatOf (c .args .width)

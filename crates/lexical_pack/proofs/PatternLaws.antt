@@ -19,14 +19,15 @@ use lib.Ieee.Exact.{HasValue}
 use lib.Ieee.Fits.{two, reach, down-pos}
 use lib.Ieee.Scale.{overflow}
 use Rattle.lexical_util.specs.declared.exponent.Magnitude.{Magnitude}
 use Rattle.lexical_float.specs.Encoding.{bitsOf}
-use Rattle.lexical_float.specs.Pattern.{BitsOf, PatternOf}
-use Rattle.lexical_float.specs.Parts.{magnitudeOf, partsOf, fitting, floatFrom, IsExact}
-use Rattle.lexical_float.specs.Claims.{PartsComeBack}
+use Rattle.lexical_float.specs.Parts.{magnitudeOf, partsOf}
+use Rattle.lexical_pack.specs.Pack.{fitting, floatFrom, IsExact}
+use Rattle.lexical_pack.specs.Pattern.{BitsOf, PatternOf}
+use Rattle.lexical_pack.specs.Claims.{PartsComeBack}
 use Rattle.lexical_util.proofs.DifferenceLaws.{by-larger}
-use Rattle.lexical_float.proofs.GapLaws.{minus-le, lt-not-le}
 use Rattle.lexical_float.proofs.FloatLaws.{round-of-value}
 use Rattle.lexical_float.proofs.PartsLaws.{below, finite-below, mantissaBits, exponentBits, units-value, value-shift, value-no-nan, lifted, bits-value, magnitude-bits, special-bits, special-value, split-bits}
+use Rattle.lexical_pack.proofs.GapLaws.{minus-le, lt-not-le}
 
 twice : (f : Format) → 2 ^ prec f ≡ 2 * hid f
 twice binary32 = refl

@@ -7,10 +7,10 @@ use lib.IntN.{ℤ}
 use lib.Ieee.{Format, hid, ones, top, up, down, ofBits, nanBits}
 use lib.Ieee.Exact.{HasValue}
 use Rattle.lexical_util.specs.declared.exponent.Magnitude.{Magnitude}
-use Rattle.lexical_float.specs.declared.pattern.Pattern.{Pattern}
-use Rattle.lexical_float.specs.declared.pattern.Pattern.the-variants.{Bits, NoFloat}
+use Rattle.lexical_pack.specs.declared.pattern.Pattern.{Pattern}
+use Rattle.lexical_pack.specs.declared.pattern.Pattern.the-variants.{Bits, NoFloat}
 use Rattle.lexical_float.specs.Encoding.{bitsOf}
-use Rattle.lexical_float.specs.Parts.{fitting}
+use Rattle.lexical_pack.specs.Pack.{fitting}
 
 -- the bits n below the sign are those of m * 2 ^ e
 pub record BitsOf (f : Format) (m : ℕ) (e : ℤ) (n : ℕ) : Type 0 where

@@ -1,10 +1,10 @@
--- `lexical_float::pattern::with_sign` meets its contract. Assumes nothing.
+-- `lexical_pack::pattern::with_sign` meets its contract. Assumes nothing.
 use borrow.Author.Needs.{needs}
 use lib.Ieee.{Format}
 use Rattle.lexical_float.specs.Encoding.{formatOf}
-use Rattle.lexical_float.proofs.EncodingLaws.{signed-fits, sign-set, sign-clear}
-use Rattle.lexical_float.proofs.pattern.with_sign.Statement.{statement}
-use Rattle.lexical_float.proofs.pattern.with_sign.Tie as tie
+use Rattle.lexical_pack.proofs.PackLaws.{signed-fits, sign-set, sign-clear}
+use Rattle.lexical_pack.proofs.pattern.with_sign.Statement.{statement}
+use Rattle.lexical_pack.proofs.pattern.with_sign.Tie as tie
 
 abbrev f : tie.Start → Format
 f c = formatOf (c .args .width)
