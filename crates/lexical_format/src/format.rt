@@ -1,7 +1,7 @@
 // The part of a format that the Rust packs into its u128 parameter FORMAT: document 01, "Formats".
 ghost use mathlib.Core.Path.{_≡_};
 ghost use Rattle.lexical_format.specs.Format.{pairs, findPair, ofFoundPair};
-ghost use Rattle.lexical_format.specs.Code.{bits, baseBits};
+ghost use Rattle.lexical_format.specs.Code.{baseBits};
 
 // A row of the table of pairs: a radix of b bits to a digit, and the base of the exponent, 2 to the power c.
 pub struct Pair {
@@ -27,20 +27,6 @@ pub(crate) enum FoundPair {
     Unknown,
 }
 
-// The bits of a digit of 2, 4, 8, 16 or 32, and 0 for any other number.
-fn bits_of(number: u32) -> u32
-    ensures { λ r. ⌜ r ≡ bits number ⌝ }
-{
-    match number {
-        2 => 1,
-        4 => 2,
-        8 => 3,
-        16 => 4,
-        32 => 5,
-        _ => 0,
-    }
-}
-
 // c of a radix of b bits and a base: the two are equal, the base is 2, or the pair is 16/4. It is 0 where the table has no such row.
 fn base_bits(radix: u32, base: u32, b: u32) -> u32
     ensures { λ r. ⌜ r ≡ baseBits radix base b ⌝ }
@@ -61,7 +47,7 @@ fn base_bits(radix: u32, base: u32, b: u32) -> u32
 pub(crate) fn find_pair(radix: u32, base: u32) -> FoundPair
     ensures { λ r. ⌜ ofFoundPair r ≡ findPair radix base pairs ⌝ }
 {
-    let b = bits_of(radix);
+    let b = lexical_util::digit_bits(radix);
     if b == 0 {
         return FoundPair::Unknown;
     }

@@ -11,6 +11,10 @@ use Rattle.lexical_util.specs.declared.digit.DigitValue.the-variants.{Di
 unfoldable pub isRadix : ℕ → Bool
 isRadix r = eqb r 2 || (eqb r 4 || (eqb r 8 || (eqb r 10 || (eqb r 16 || eqb r 32))))
 
+-- the bits of a digit: b of radix 2 ^ b for 2, 4, 8, 16 and 32, and 0 for any other number
+unfoldable pub digitBits : ℕ → ℕ
+digitBits n = cond (eqb 2 n) 1 (cond (eqb 4 n) 2 (cond (eqb 8 n) 3 (cond (eqb 16 n) 4 (cond (eqb 32 n) 5 0))))
+
 -- a digit's byte: 0-9 then capitals A-V
 unfoldable pub digitByte : ℕ → ℕ
 digitByte d = cond (ltb d 10) (48 + d) (55 + d)

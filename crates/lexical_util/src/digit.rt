@@ -1,6 +1,6 @@
 // Radices, and the digit that a byte stands for.
 ghost use mathlib.Core.Path.{_≡_};
-ghost use Rattle.lexical_util.specs.Digit.{digitValue, isRadix, ofDigitValue};
+ghost use Rattle.lexical_util.specs.Digit.{digitValue, isRadix, digitBits, ofDigitValue};
 
 pub enum DigitValue {
     Digit(u8),
@@ -25,5 +25,19 @@ pub fn is_radix(radix: u32) -> bool
     match radix {
         2 | 4 | 8 | 10 | 16 | 32 => true,
         _ => false,
+    }
+}
+
+// The bits of a digit: b of radix 2^b for 2, 4, 8, 16 and 32, and 0 for any other number.
+pub fn digit_bits(radix: u32) -> u32
+    ensures { λ r. ⌜ r ≡ digitBits radix ⌝ }
+{
+    match radix {
+        2 => 1,
+        4 => 2,
+        8 => 3,
+        16 => 4,
+        32 => 5,
+        _ => 0,
     }
 }

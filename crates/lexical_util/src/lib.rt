@@ -6,6 +6,7 @@ pub mod exponent;
 pub use answer::Refusal;
 pub use answer::Written;
 pub use digit::DigitValue;
+pub use digit::digit_bits;
 pub use digit::digit_value;
 pub use digit::is_radix;
 pub use exponent::BaseExponent;

@@ -1,3 +1,2 @@
-pub mod RadixLaws
 pub mod FillLaws
 pub mod PairLaws

@@ -1,13 +1,12 @@
 // Derived from lexical-write-integer/src/digit_count.rs, changed: u64 alone, the radix by its bits, a test for 0 instead of `x | 1`.
 ghost use mathlib.Core.Path.{_≡_};
-ghost use mathlib.Core.Bool.{true};
-ghost use Prim.Native.Nat.{_^_, _-_, _<_, _≤_};
+ghost use Prim.Native.Nat.{_^_, _-_, _<_};
 ghost use lib.Ieee.{size};
 ghost use lib.ListN.{length};
-ghost use Rattle.lexical_util.specs.Digit.{isRadix};
 ghost use Rattle.lexical_digits.specs.Digits.{digits};
 ghost use Rattle.lexical_digits.specs.Write.{digitCount, digitLog};
 use crate::decimal::decimal_count;
+use lexical_util::digit_bits;
 use lexical_util::quotient;
 use lexical_util::significant_bits;
 
@@ -25,20 +24,6 @@ pub fn digit_log(value: u64, bits_per_digit: u32) -> usize
     ensures digits { λ r. ⌜ (0 < «bits_per_digit» → r ≡ length (digits (2 ^ «bits_per_digit») value)) ⌝ }
 {
     (quotient(fast_log2(value) as u64, bits_per_digit) + 1) as usize
-}
-
-// The bits of a digit: b of radix 2^b.
-pub(crate) fn digit_bits(radix: u32) -> u32
-    requires { ⌜ (isRadix radix ≡ true) × (radix ≡ 10 → ⊥) ⌝ }
-    ensures { λ r. ⌜ (2 ^ r ≡ radix) × (0 < r) × (r ≤ 5) ⌝ }
-{
-    match radix {
-        2 => 1,
-        4 => 2,
-        8 => 3,
-        16 => 4,
-        _ => 5,
-    }
 }
 
 // How many digits value has in a radix, and 0 in a number that is none.

@@ -7,13 +7,13 @@ ghost use lib.ListN.{length, drop};
 ghost use Rattle.lexical_util.specs.Answer.{written, held, ofWritten};
 ghost use Rattle.lexical_util.specs.Digit.{isRadix};
 ghost use Rattle.lexical_digits.specs.Write.{lastNumeral, digitsText};
-use crate::count::digit_bits;
 use crate::count::digit_count;
 use crate::decimal::decimal;
 use crate::radix::radix;
 use crate::radix::radix_32;
 use lexical_util::Refusal;
 use lexical_util::Written;
+use lexical_util::digit_bits;
 
 // The last count digits of value by the loop of the radix.
 fn write_digits(value: u64, base: u32, count: usize, buffer: &mut [u8])

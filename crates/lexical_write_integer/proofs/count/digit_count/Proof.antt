@@ -1,6 +1,7 @@
 -- `lexical_write_integer::count::digit_count` meets its contract: one law for each answer. Assumes nothing.
 use mathlib.Core.Path.{sym, _∙_}
 use borrow.Author.Needs.{needs}
+use Rattle.lexical_util.proofs.BitsLaws.{power-of}
 use Rattle.lexical_digits.proofs.DigitsAnswer.{count-known, count-decimal, count-unknown}
 use Rattle.lexical_write_integer.proofs.count.digit_count.Statement.{statement}
 use Rattle.lexical_write_integer.proofs.count.digit_count.Tie as tie
@@ -12,7 +13,7 @@ is-radix-requires : tie.Need-is-radix-requires
 is-radix-requires c κs = search needs
 
 digit-bits-requires : tie.Need-digit-bits-requires
-digit-bits-requires c κs = (sym (c .before .is-radix .ensures) ∙ c .if2 .taken, search needs)
+digit-bits-requires c κs = tt
 
 digit-log-requires : tie.Need-digit-log-requires
 digit-log-requires c κs = tt
@@ -24,7 +25,9 @@ returns-2 : tie.Need-returns-2
 returns-2 c =
     let t = c .before .before in
     let a = t .before .before .before .args in
-    c .digit-log .ensures .1 (c .before .digit-bits .ensures .1) ∙ rw (c .before .digit-bits .ensures .0) (sym (count-known (a .value) (a .radix) (sym (t .before .is-radix .ensures) ∙ t .if2 .taken)))
+    let known = sym (t .before .is-radix .ensures) ∙ t .if2 .taken in
+    let P = rw (← c .before .digit-bits .ensures) at (power-of (a .radix) known (t .before .before .if1 .left)) in
+    c .digit-log .ensures .1 (P .some-bits) ∙ rw (P .is) (sym (count-known (a .value) (a .radix) known))
 
 returns-3 : tie.Need-returns-3
 returns-3 c = let a = c .before .before .before .args in sym (count-unknown (a .value) (a .radix) (sym (c .before .is-radix .ensures) ∙ c .if2 .left))

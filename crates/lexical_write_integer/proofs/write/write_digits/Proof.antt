@@ -2,6 +2,7 @@
 use mathlib.Core.Path.{_∙_}
 use native.Mathlib.Omega.{arith}
 use borrow.Author.Needs.{needs}
+use Rattle.lexical_util.proofs.BitsLaws.{Power, power-of}
 use Rattle.lexical_write_integer.proofs.write.write_digits.Statement.{statement}
 use Rattle.lexical_write_integer.proofs.write.write_digits.Tie as tie
 
@@ -12,10 +13,13 @@ radix-32-requires : tie.Need-radix-32-requires
 radix-32-requires c κs = omega arith
 
 digit-bits-requires : tie.Need-digit-bits-requires
-digit-bits-requires c κs = search needs
+digit-bits-requires c κs = tt
+
+power : (c : tie.After-digit-bits) → Power (c .before .before .before .before .args .base) (c .digit-bits .result)
+power c = let s = c .before .before .before .before in rw (c .digit-bits .ensures) (power-of (s .args .base) (s .pre .0) (c .before .before .if1 .left))
 
 radix-requires : tie.Need-radix-requires
-radix-requires c κs = (omega arith, omega arith)
+radix-requires c κs = (power (c .before) .few-bits, omega arith)
 
 same-length : tie.Need-same-length
 same-length c = search needs
@@ -33,7 +37,7 @@ same-length-3 : tie.Need-same-length-3
 same-length-3 c = search needs
 
 returns-3 : tie.Need-returns-3
-returns-3 c = c .before .before .radix .ensures ∙ rw (c .before .before .before .before .digit-bits .ensures .0)
+returns-3 c = c .before .before .radix .ensures ∙ rw (power (c .before .before .before .before) .is)
 
 pub write-digits-spec : {M : Type 1} → statement M
 write-digits-spec =
