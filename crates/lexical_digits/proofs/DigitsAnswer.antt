@@ -1,15 +1,16 @@
 -- What the digits calls answer and leave in the lent bytes, in each of their cases. Assumes nothing.
-use Prim.Native.Nat.{ℕ, _≤_, _<_}
+use Prim.Native.Nat.{ℕ, _^_, _≤_, _<_}
 use mathlib.Core.Path.{_≡_, refl, sym}
 use mathlib.Core.Bool.{true, false}
 use mathlib.Core.List.{List, _++_}
+use borrow.Author.Tests.{lt-ltb}
 use lib.ListN.{length, drop}
 use Rattle.lexical_util.specs.Answer.{done, refused, written, held}
 use Rattle.lexical_util.specs.Digit.{isRadix}
 use Rattle.lexical_util.proofs.AnswerLaws.{text-fits, text-short}
 use Rattle.lexical_util.proofs.RadixLaws.{radix-bounds}
 use Rattle.lexical_digits.specs.Digits.{digits}
-use Rattle.lexical_digits.specs.Write.{lastNumeral, digitsText, digitCount}
+use Rattle.lexical_digits.specs.Write.{lastNumeral, digitsText, digitCount, digitLog}
 use Rattle.lexical_digits.proofs.LastLaws.{length-last, numeral-last}
 
 -- ---- how many
@@ -24,6 +25,10 @@ count-decimal x = count-known x 10 refl
 pub count-unknown : (x r : ℕ) → isRadix r ≡ false → digitCount x r ≡ 0
 unfolding digitCount
 count-unknown x r h = rw h
+
+pub log-known : (x b : ℕ) → 0 < b → digitLog x b ≡ length (digits (2 ^ b) x)
+unfolding digitLog
+log-known x b h = rw (lt-ltb 0 b h)
 
 -- ---- which
 module _ (x r n : ℕ) (out : List ℕ) (known : isRadix r ≡ true) (count : n ≡ digitCount x r) where

@@ -1,12 +1,11 @@
 -- What the digits calls are asked for: document 01, "Digits". The answer of one that writes, and the lent bytes, are `written` and `held` of it. Definitions only.
-use Prim.Native.Nat.{ℕ, zero, suc, _+_, _-_, _/_, _%_, _^_}
+use Prim.Native.Nat.{ℕ, zero, suc, _/_, _%_, _^_}
 use mathlib.Core.Bool.{cond, not, _&&_}
 use mathlib.Core.List.{List, [], _∷_, _++_}
-use lib.Dec.{leb}
+use lib.Dec.{leb, ltb}
 use lib.ListN.{length}
 use Rattle.lexical_util.specs.Answer.{Answer, done, checked}
 use Rattle.lexical_util.specs.Digit.{digitByte, isRadix}
-use Rattle.lexical_util.specs.Exponent.{significantBits}
 use Rattle.lexical_digits.specs.Digits.{digits, numeral}
 
 -- 2 radix unknown
@@ -17,9 +16,9 @@ digitsText x radix = checked ((2, not (isRadix radix)) ∷ []) (done (numeral ra
 unfoldable pub digitCount : ℕ → ℕ → ℕ
 digitCount x radix = cond (isRadix radix) (length (digits radix x)) 0
 
--- the same in radix 2 ^ b, by the place of the leading bit
+-- the same in radix 2 ^ b, and 0 where b is 0, since no radix has digits of no bits
 unfoldable pub digitLog : ℕ → ℕ → ℕ
-digitLog x b = (significantBits x - 1) / b + 1
+digitLog x b = cond (ltb 0 b) (length (digits (2 ^ b) x)) 0
 
 -- the bytes of the last k digits of x, leading zeros included
 unfoldable pub lastNumeral : ℕ → ℕ → ℕ → List ℕ

@@ -166,7 +166,7 @@ fn write_checked(
     }
 }
 
-// The same in any format, whose refusals come first. Both widths come here, and from here on nothing is called from two places: the compiler makes one function of it.
+// The same in any format, whose refusals come first. Both widths come here, and from here on every larger function is called from one place: the compiler makes one function of them.
 fn write_parts(parts: Parts, format: NumberFormat, options: Options, buffer: &mut [u8]) -> Written
     requires { ⌜ OfFloat parts ⌝ }
     ensures { λ r. ⌜ ofWritten r ≡ written (askedByParts format options parts) (now (buffer .entry)) ⌝ }

@@ -1,9 +1,7 @@
 // Derived from lexical-write-integer/src/digit_count.rs, changed: u64 alone, the radix by its bits, a test for 0 instead of `x | 1`.
 ghost use mathlib.Core.Path.{_≡_};
-ghost use Prim.Native.Nat.{_^_, _-_, _<_};
+ghost use Prim.Native.Nat.{_-_};
 ghost use lib.Ieee.{size};
-ghost use lib.ListN.{length};
-ghost use Rattle.lexical_digits.specs.Digits.{digits};
 ghost use Rattle.lexical_digits.specs.Write.{digitCount, digitLog};
 use crate::decimal::decimal_count;
 use lexical_util::digit_bits;
@@ -18,11 +16,13 @@ pub(crate) fn fast_log2(x: u64) -> u32
     if bits == 0 { 0 } else { bits - 1 }
 }
 
-// How many digits value has in radix 2^bits_per_digit. No radix has digits of no bits; there the definition has 1.
+// How many digits value has in radix 2^bits_per_digit, and 0 where a digit has no bits.
 pub fn digit_log(value: u64, bits_per_digit: u32) -> usize
     ensures { λ r. ⌜ r ≡ digitLog value «bits_per_digit» ⌝ }
-    ensures digits { λ r. ⌜ (0 < «bits_per_digit» → r ≡ length (digits (2 ^ «bits_per_digit») value)) ⌝ }
 {
+    if bits_per_digit == 0 {
+        return 0;
+    }
     (quotient(fast_log2(value) as u64, bits_per_digit) + 1) as usize
 }
 

@@ -9,6 +9,7 @@ use mir.Val.{SFits}
 use lib.ListN.{length}
 use Rattle.lexical_digits.specs.Digits.{numeral}
 use Rattle.lexical_text.specs.Value.{modulo, exactDigits}
+use Rattle.lexical_digits.proofs.DigitsAnswer.{log-known}
 use Rattle.lexical_digits.proofs.DigitsLaws.{length-numeral}
 use Rattle.lexical_text.proofs.ValueLaws.{exact-few}
 use Rattle.lexical_write_float.proofs.TextLaws.{shift-below, shift-fits}
@@ -51,7 +52,7 @@ returns c =
     let s = k .before .before .before in
     let a = s .args in
     let short : k .calculate-shl .result < 5 = omega (arith, k .calculate-shl .ensures .1, s .pre .1) in
-    let n : c .digit-log .result ≡ length (numeral (2 ^ a .bits-per-digit) (shifted k)) = c .digit-log .ensures .1 (s .pre .0) ∙ sym (length-numeral (2 ^ a .bits-per-digit) (shifted k)) in
+    let n : c .digit-log .result ≡ length (numeral (2 ^ a .bits-per-digit) (shifted k)) = c .digit-log .ensures ∙ log-known _ _ (s .pre .0) ∙ sym (length-numeral (2 ^ a .bits-per-digit) (shifted k)) in
     let same = ap (numeral (2 ^ a .bits-per-digit)) (shift-is k) in
     let few : length (numeral (2 ^ a .bits-per-digit) (a .value .mantissa * 2 ^ modulo (a .value .exponent) (a .bits-per-digit))) ≤ 64 = exact-few (a .bits-per-digit) (a .value .mantissa) (a .value .exponent) (s .pre .0) (s .pre .1) (s .pre .2) in
     (same, record { some-bits = s .pre .0; few-bits = s .pre .1; count-is = n; few = rw (n, same) few; small = rw (shift-fits (a .value .mantissa) (k .calculate-shl .result) (s .pre .2) short) (shift-below (a .value .mantissa) (k .calculate-shl .result) (s .pre .2) short) })

@@ -2,7 +2,7 @@
 use mathlib.Core.Path.{sym, _∙_}
 use borrow.Author.Needs.{needs}
 use Rattle.lexical_util.proofs.BitsLaws.{power-of}
-use Rattle.lexical_digits.proofs.DigitsAnswer.{count-known, count-decimal, count-unknown}
+use Rattle.lexical_digits.proofs.DigitsAnswer.{log-known, count-known, count-decimal, count-unknown}
 use Rattle.lexical_write_integer.proofs.count.digit_count.Statement.{statement}
 use Rattle.lexical_write_integer.proofs.count.digit_count.Tie as tie
 
@@ -27,7 +27,7 @@ returns-2 c =
     let a = t .before .before .before .args in
     let known = sym (t .before .is-radix .ensures) ∙ t .if2 .taken in
     let P = rw (← c .before .digit-bits .ensures) at (power-of (a .radix) known (t .before .before .if1 .left)) in
-    c .digit-log .ensures .1 (P .some-bits) ∙ rw (P .is) (sym (count-known (a .value) (a .radix) known))
+    c .digit-log .ensures ∙ log-known _ _ (P .some-bits) ∙ rw (P .is) (sym (count-known (a .value) (a .radix) known))
 
 returns-3 : tie.Need-returns-3
 returns-3 c = let a = c .before .before .before .args in sym (count-unknown (a .value) (a .radix) (sym (c .before .is-radix .ensures) ∙ c .if2 .left))
