@@ -1,5 +1,4 @@
 -- `lexical_format::format::base_bits` meets its contract: each test is asked where those before it fail. Assumes nothing.
-use mathlib.Core.Path.{_≡_, sym}
 use native.Mathlib.Omega.{arith}
 use borrow.Author.Tests.{eq-eqb, ne-eqb}
 use Rattle.lexical_format.specs.Code.{baseBits}

@@ -1,5 +1,5 @@
 -- `lexical_write_float::write::write_checked` meets its contract: by the parts. Assumes nothing.
-use mathlib.Core.Path.{_≡_, refl, sym, subst}
+use mathlib.Core.Path.{refl, sym, subst}
 use Rattle.lexical_write_float.specs.Code.{magnitudeText, OfFloat}
 use borrow.Author.Needs.{needs}
 use Rattle.lexical_write_float.proofs.write.write_checked.Statement.{statement}

@@ -1,9 +1,7 @@
 -- `lexical_write_float::write::write_parts` meets its contract: the check's refusal, or what the parts are asked for. Assumes nothing.
 use mathlib.Core.Path.{_≡_, refl, sym, ap, _∙_}
-use Rattle.lexical_util.specs.Answer.{Answer, done, refused}
-use Rattle.lexical_format.specs.declared.checks.CheckedFormat.{CheckedFormat}
+use Rattle.lexical_util.specs.Answer.{done}
 use Rattle.lexical_format.specs.Format.{checkedFormat, ofWritingCheck}
-use Rattle.lexical_write_float.specs.Code.{Passed}
 use Rattle.lexical_write_float.proofs.AnswerLaws.{passed}
 use borrow.Author.Needs.{needs}
 use Rattle.lexical_write_float.proofs.write.write_parts.Statement.{statement}

@@ -1,5 +1,5 @@
 -- `lexical_write_float::write::written_in` meets its contract: the two cases of `written`. Assumes nothing.
-use mathlib.Core.Path.{_≡_, sym, ap, _∙_}
+use mathlib.Core.Path.{sym, ap, _∙_}
 use Prim.Native.Nat.{ℕ}
 use native.Mathlib.Omega.{arith}
 use Rattle.lexical_util.specs.Answer.{done}
