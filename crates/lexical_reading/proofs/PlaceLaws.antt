@@ -12,10 +12,10 @@ use lib.ListN.{length, take, drop, length-append, take-append-drop}
 use lib.Seq.{take-append-le, take-at}
 use Rattle.lexical_util.specs.Digit.{digitByte, digitIn, AreDigits}
 use Rattle.lexical_util.proofs.DigitLaws.{in-digit}
-use Rattle.lexical_read_float.specs.Shape.{Grammar, Sign, unsigned, plus, minus, Tail, absent, exponent, Shape, signBytes, tailBytes, fractionBytes, print, Some, TailFits, FractionFits, WellFormed, WellShaped, Begins}
-use Rattle.lexical_read_float.specs.Parse.{Run, run, Parsed, found, stuck, mapParsed, allDigits, exponentDigits, signedExponent, parseTail, withTail, afterPoint, afterWhole, oneOrMore, parse, WrongAt}
-use Rattle.lexical_read_float.proofs.RunLaws.{Head, Ends, IsRun, is-run, run-stops, run-digits, run-all}
-use Rattle.lexical_read_float.proofs.ParseLaws.{Apart, byte-no-sign, no-sign, no-point, parse-print}
+use Rattle.lexical_reading.specs.Shape.{Grammar, Sign, unsigned, plus, minus, Tail, absent, exponent, Shape, signBytes, tailBytes, fractionBytes, print, Some, TailFits, FractionFits, WellFormed, WellShaped, Begins}
+use Rattle.lexical_reading.specs.Parse.{Run, run, Parsed, found, stuck, mapParsed, allDigits, exponentDigits, signedExponent, parseTail, withTail, afterPoint, afterWhole, oneOrMore, parse, WrongAt}
+use Rattle.lexical_reading.proofs.RunLaws.{Head, Ends, IsRun, is-run, run-stops, run-digits, run-all}
+use Rattle.lexical_reading.proofs.ParseLaws.{Apart, byte-no-sign, no-sign, no-point, parse-print}
 
 abbrev pub IsFound : {A : Type 0} → Parsed A → Type 0
 IsFound (found a) = Unit {0}

@@ -20,14 +20,14 @@ use Rattle.lexical_format.specs.declared.format.NumberFormat.{NumberFormat}
 use Rattle.lexical_format.specs.declared.options.Options.{Options}
 use Rattle.lexical_format.specs.Format.{readingFormat}
 use Rattle.lexical_format.proofs.FormatLaws.{readable}
-use Rattle.lexical_read_float.specs.Shape.{Shape, print}
-use Rattle.lexical_read_float.specs.Parse.{Parsed, found, stuck, parse, ofParsed, shapeOf, WrongAt}
-use Rattle.lexical_read_float.specs.Round.{tooLarge, Nearest}
-use Rattle.lexical_read_float.specs.Read.{grammarOf, magnitude, isNegative, basePower, numerator, denominator, floatOf, exponentTooLarge, exponentPlace, valueOf, readText, readFloat}
-use Rattle.lexical_read_float.specs.Claims.{PrintedIsRead, FoundIsPrinted, PlaceIsLeast, RoundIsNearest, OnlyOneIsNearest, NearestToText, ReadIsNearest}
-use Rattle.lexical_read_float.proofs.ParseLaws.{Apart, parse-print}
-use Rattle.lexical_read_float.proofs.PlaceLaws.{found-prints, wrong-at}
-use Rattle.lexical_read_float.proofs.NearestLaws.{round-nearest, only-nearest}
+use Rattle.lexical_reading.specs.Shape.{Shape, print}
+use Rattle.lexical_reading.specs.Parse.{Parsed, found, stuck, parse, ofParsed, shapeOf, WrongAt}
+use Rattle.lexical_reading.specs.Round.{tooLarge, Nearest}
+use Rattle.lexical_reading.specs.Read.{grammarOf, magnitude, isNegative, basePower, numerator, denominator, floatOf, exponentTooLarge, exponentPlace, valueOf, readText, readFloat}
+use Rattle.lexical_reading.specs.Claims.{PrintedIsRead, FoundIsPrinted, PlaceIsLeast, RoundIsNearest, OnlyOneIsNearest, NearestToText, ReadIsNearest}
+use Rattle.lexical_reading.proofs.ParseLaws.{Apart, parse-print}
+use Rattle.lexical_reading.proofs.PlaceLaws.{found-prints, wrong-at}
+use Rattle.lexical_reading.proofs.NearestLaws.{round-nearest, only-nearest}
 
 no-digit : (radix x : ℕ) → isDigit radix x ≡ false → digitIn radix x ≡ none
 unfolding isDigit

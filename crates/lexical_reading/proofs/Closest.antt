@@ -10,7 +10,7 @@ use lib.Dec.{T, isLe, isEq, leb→le, nleb→lt, eqb→eq, eqb-refl}
 use lib.Arith.{lt-of-le-ne}
 use lib.Ieee.{nearest}
 use lib.Ieee.Nearest.{closest}
-use Rattle.lexical_read_float.specs.Round.{apart}
+use Rattle.lexical_reading.specs.Round.{apart}
 
 -- ---- what `compare` says
 abbrev Compared : Ordering → ℕ → ℕ → Type 0

@@ -12,7 +12,7 @@ use Rattle.lexical_util.specs.Examples.{bytes, sameAnswer, Example}
 use Rattle.lexical_format.specs.declared.format.NumberFormat.{NumberFormat}
 use Rattle.lexical_format.specs.declared.options.Options.{Options}
 use Rattle.lexical_format.specs.declared.options.RoundMode.the-variants.{Round}
-use Rattle.lexical_read_float.specs.Read.{readFloat}
+use Rattle.lexical_reading.specs.Read.{readFloat}
 
 -- r/base/exponent radix, mark "^", all else default
 abbrev pub format : ℕ → ℕ → ℕ → NumberFormat

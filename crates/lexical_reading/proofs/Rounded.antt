@@ -11,8 +11,8 @@ use lib.Ieee.{size}
 use lib.Ieee.Digits.{size-reaches, back}
 use lib.Ieee.Fits.{kept-lt}
 use lib.Ieee.Order.{drop, kept}
-use Rattle.lexical_read_float.specs.Round.{apart}
-use Rattle.lexical_read_float.proofs.Closest.{Closest, closest-is, at-most, at-least, least, tie}
+use Rattle.lexical_reading.specs.Round.{apart}
+use Rattle.lexical_reading.proofs.Closest.{Closest, closest-is, at-most, at-least, least, tie}
 
 -- what lies further below n lies further away
 farther : (n y b d : ℕ) → y < b → b ≤ n → d ≤ apart n b → d < apart n y

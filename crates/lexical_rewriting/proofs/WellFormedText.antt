@@ -22,10 +22,10 @@ use Rattle.lexical_text.specs.declared.layout.Layout.{Layout}
 use Rattle.lexical_text.specs.declared.layout.Layout.the-variants.{Scientific, Negative, Positive}
 use Rattle.lexical_text.specs.Value.{modulo, exactDigits}
 use Rattle.lexical_text.specs.Text.{least, trim, layoutOf, digitsSoFar}
-use Rattle.lexical_read_float.specs.Shape.{Grammar, Tail, absent, Some, TailFits, FractionFits, WellFormed}
-use Rattle.lexical_read_float.specs.Parse.{withTail}
-use Rattle.lexical_read_float.specs.Read.{grammarOf}
-use Rattle.lexical_rewrite.proofs.TextShape.{noughts, tailOf, pad, scientificShape, negativeShape, positiveShape, shapeIn, shapeOfText}
+use Rattle.lexical_reading.specs.Shape.{Grammar, Tail, absent, Some, TailFits, FractionFits, WellFormed}
+use Rattle.lexical_reading.specs.Parse.{withTail}
+use Rattle.lexical_reading.specs.Read.{grammarOf}
+use Rattle.lexical_rewriting.proofs.TextShape.{noughts, tailOf, pad, scientificShape, negativeShape, positiveShape, shapeIn, shapeOfText}
 
 -- ---- lists of digits
 digits-append : (r : ℕ) (s t : List ℕ) → AreDigits r s → AreDigits r t → AreDigits r (s ++ t)

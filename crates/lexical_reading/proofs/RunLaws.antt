@@ -5,7 +5,7 @@ use mathlib.Core.List.{List, [], _∷_, _++_, map, append-nil}
 use mathlib.Core.Option.{Option, none, some}
 use Rattle.lexical_util.specs.Digit.{digitByte, digitIn, AreDigits}
 use Rattle.lexical_util.proofs.DigitLaws.{digit-in, in-digit}
-use Rattle.lexical_read_float.specs.Parse.{Run, more, run}
+use Rattle.lexical_reading.specs.Parse.{Run, more, run}
 
 -- a text's first byte, where it has one
 abbrev pub Head : (ℕ → Type 0) → List ℕ → Type 0

@@ -6,10 +6,10 @@ use lib.Ieee.{size, span, climb, odd, units, round, toBits}
 use Rattle.lexical_util.specs.Digit.{digitByte, digitValue, digitIn, isDigit, isRadix, readOn}
 use Rattle.lexical_util.specs.Examples.{failing}
 use Rattle.lexical_format.specs.Format.{pairs, findPair, pairOf, badByte, badBytes, readingFormat}
-use Rattle.lexical_read_float.specs.Parse.{run, signedExponent, parseTail, afterWhole, parse, shapeOf}
-use Rattle.lexical_read_float.specs.Round.{tooLarge}
-use Rattle.lexical_read_float.specs.Read.{numerator, denominator, floatOf, exponentTooLarge, exponentPlace, valueOf, readText, readFloat}
-use Rattle.lexical_read_float.specs.Examples.{reading, long}
+use Rattle.lexical_reading.specs.Parse.{run, signedExponent, parseTail, afterWhole, parse, shapeOf}
+use Rattle.lexical_reading.specs.Round.{tooLarge}
+use Rattle.lexical_reading.specs.Read.{numerator, denominator, floatOf, exponentTooLarge, exponentPlace, valueOf, readText, readFloat}
+use Rattle.lexical_reading.specs.Examples.{reading, long}
 
 pub reading-holds : failing reading ≡ []
 unfolding failing reading readFloat readText valueOf exponentTooLarge exponentPlace floatOf numerator denominator tooLarge shapeOf parse afterWhole parseTail signedExponent run readingFormat badBytes badByte pairOf findPair pairs readOn isRadix isDigit digitIn digitValue digitByte round units odd size span climb trailingZeros toBits

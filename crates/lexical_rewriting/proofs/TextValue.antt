@@ -26,12 +26,12 @@ use Rattle.lexical_text.specs.declared.layout.Layout.the-variants.{Scientific, 
 use Rattle.lexical_text.specs.Value.{modulo, exactDigits}
 use Rattle.lexical_text.specs.Text.{least, trim, isScientific, layoutOf, digitsSoFar}
 use Rattle.lexical_text.proofs.WriteLaws.{first-place}
-use Rattle.lexical_read_float.specs.Shape.{unsigned, plus, Tail, absent, exponent, Shape}
-use Rattle.lexical_read_float.specs.Parse.{withTail}
-use Rattle.lexical_read_float.specs.Read.{magnitude, isNegative, numerator, denominator}
-use Rattle.lexical_rewrite.proofs.TextShape.{noughts, tailOf, pad, scientificShape, negativeShape, positiveShape, shapeIn, shapeOfText}
-use Rattle.lexical_rewrite.proofs.DigitRuns.{value-padded}
-use Rattle.lexical_rewrite.proofs.Balance.{Balanced, balance}
+use Rattle.lexical_reading.specs.Shape.{unsigned, plus, Tail, absent, exponent, Shape}
+use Rattle.lexical_reading.specs.Parse.{withTail}
+use Rattle.lexical_reading.specs.Read.{magnitude, isNegative, numerator, denominator}
+use Rattle.lexical_rewriting.proofs.TextShape.{noughts, tailOf, pad, scientificShape, negativeShape, positiveShape, shapeIn, shapeOfText}
+use Rattle.lexical_rewriting.proofs.DigitRuns.{value-padded}
+use Rattle.lexical_rewriting.proofs.Balance.{Balanced, balance}
 
 module _ (F : NumberFormat) (o : Options) (row : Pair) (R : Readable F o row) where
   abbrev b : ℕ

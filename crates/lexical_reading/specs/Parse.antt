@@ -7,7 +7,7 @@ use lib.Dec.{eqb}
 use lib.ListN.{length, take}
 use Rattle.lexical_util.specs.Answer.{Answer, done, refused}
 use Rattle.lexical_util.specs.Digit.{digitIn}
-use Rattle.lexical_read_float.specs.Shape.{Grammar, Sign, unsigned, plus, minus, Tail, absent, exponent, Shape, WellShaped, Begins}
+use Rattle.lexical_reading.specs.Shape.{Grammar, Sign, unsigned, plus, minus, Tail, absent, exponent, Shape, WellShaped, Begins}
 
 -- the digits of a radix in front of a text, and what is left of it
 pub record Run : Type 0 where

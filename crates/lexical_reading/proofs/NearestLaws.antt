@@ -15,11 +15,11 @@ use lib.Ieee.Fits.{two, two-le-pos, round-fits}
 use lib.Ieee.Order.{drop, kept, transfer}
 use lib.Ieee.Positive.{num, den, den-pos}
 use lib.Ieee.Scale.{grid, finite}
-use Rattle.lexical_read_float.specs.Round.{tooLarge, apart, distance, Nearest}
-use Rattle.lexical_read_float.proofs.Rounded.{Rounded, rounded, kept-range, rounded-least, Tie, rounded-tie}
+use Rattle.lexical_reading.specs.Round.{tooLarge, apart, distance, Nearest}
+use Rattle.lexical_reading.proofs.Rounded.{Rounded, rounded, kept-range, rounded-least, Tie, rounded-tie}
 use Rattle.lexical_float.proofs.FloatLaws.{same-fraction, OwnFraction, own-fraction, has-value, units, value-unique}
-use Rattle.lexical_read_float.proofs.LastBit.{last-bit}
-use Rattle.lexical_read_float.proofs.Largest.{edge, below-edge, below-overflow, round-value}
+use Rattle.lexical_reading.proofs.LastBit.{last-bit}
+use Rattle.lexical_reading.proofs.Largest.{edge, below-edge, below-overflow, round-value}
 
 -- ---- distances from two floats, x and y, that are u and v in units of the smallest float: in units they compare as whole numbers
 sub-mul : (m n k : ℕ) → m * k - n * k ≡ (m - n) * k

@@ -15,8 +15,8 @@ use lib.Ieee.Fits.{two, two-le-pos, reach, round-is}
 use lib.Ieee.Order.{drop, kept}
 use lib.Ieee.Positive.{num, den, den-pos}
 use lib.Ieee.Scale.{grid, overflow}
-use Rattle.lexical_read_float.specs.Round.{largest, tooLarge, apart}
-use Rattle.lexical_read_float.proofs.Rounded.{lower, rounded, rounded-least}
+use Rattle.lexical_reading.specs.Round.{largest, tooLarge, apart}
+use Rattle.lexical_reading.proofs.Rounded.{lower, rounded, rounded-least}
 use Rattle.lexical_float.proofs.FloatLaws.{same-fraction, own-fraction, units}
 
 -- ---- the edge, a whole number: 2 ^ 1024 - 2 ^ 970, and 2 ^ 128 - 2 ^ 103

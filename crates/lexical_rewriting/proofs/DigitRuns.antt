@@ -4,7 +4,7 @@ use mathlib.Core.Path.{_≡_, refl, sym, ap, _∙_}
 use mathlib.Core.List.{List, [], _∷_, _++_}
 use native.Mathlib.Nat.{add-zero, zero-mul, mul-one, mul-assoc, pow-zero, pow-succ'}
 use Rattle.lexical_util.specs.Digit.{readOn, digitsValue}
-use Rattle.lexical_rewrite.proofs.TextShape.{noughts}
+use Rattle.lexical_rewriting.proofs.TextShape.{noughts}
 
 read-append : (r n : ℕ) (s t : List ℕ) → readOn r n (s ++ t) ≡ readOn r (readOn r n s) t
 unfolding readOn

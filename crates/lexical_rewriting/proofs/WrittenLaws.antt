@@ -30,16 +30,16 @@ use Rattle.lexical_text.specs.Write.{limitedText, floatText, writeText}
 use Rattle.lexical_text.specs.Range.{Ranged}
 use Rattle.lexical_text.proofs.RangeLaws.{fits-ranged, place-near}
 use Rattle.lexical_text.proofs.WriteLaws.{longest-text}
-use Rattle.lexical_read_float.specs.Shape.{Tail, absent, Shape}
-use Rattle.lexical_read_float.specs.Parse.{withTail, shapeOf}
-use Rattle.lexical_read_float.specs.Read.{grammarOf, magnitude, numerator, denominator, floatOf, exponentTooLarge, exponentPlace, valueOf, readText, readFloat}
-use Rattle.lexical_read_float.proofs.Largest.{not-too-large}
-use Rattle.lexical_read_float.proofs.ReadLaws.{printed-is-read, denominator-pos}
+use Rattle.lexical_reading.specs.Shape.{Tail, absent, Shape}
+use Rattle.lexical_reading.specs.Parse.{withTail, shapeOf}
+use Rattle.lexical_reading.specs.Read.{grammarOf, magnitude, numerator, denominator, floatOf, exponentTooLarge, exponentPlace, valueOf, readText, readFloat}
+use Rattle.lexical_reading.proofs.Largest.{not-too-large}
+use Rattle.lexical_reading.proofs.ReadLaws.{printed-is-read, denominator-pos}
 use Rattle.lexical_float.proofs.FloatLaws.{round-of-value}
-use Rattle.lexical_rewrite.specs.Claims.{ReadAsShape, WrittenIsShaped, Denotes, WrittenIsExact, WrittenIsReadBack}
-use Rattle.lexical_rewrite.proofs.TextShape.{tailOf, pad, noughts, digitsIn, scientificShape, negativeShape, positiveShape, shapeIn, shapeOfText, print-text}
-use Rattle.lexical_rewrite.proofs.WellFormedText.{formed-text}
-use Rattle.lexical_rewrite.proofs.TextValue.{text-value}
+use Rattle.lexical_rewriting.specs.Claims.{ReadAsShape, WrittenIsShaped, Denotes, WrittenIsExact, WrittenIsReadBack}
+use Rattle.lexical_rewriting.proofs.TextShape.{tailOf, pad, noughts, digitsIn, scientificShape, negativeShape, positiveShape, shapeIn, shapeOfText, print-text}
+use Rattle.lexical_rewriting.proofs.WellFormedText.{formed-text}
+use Rattle.lexical_rewriting.proofs.TextValue.{text-value}
 
 -- ---- the shape
 module _ (F : NumberFormat) (o : Options) (row : Pair) (w : writingFormat F o ≡ done row) (m : ℕ) (e : ℤ) where

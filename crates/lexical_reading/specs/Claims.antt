@@ -9,10 +9,10 @@ use Rattle.lexical_format.specs.declared.format.Pair.{Pair}
 use Rattle.lexical_format.specs.declared.format.NumberFormat.{NumberFormat}
 use Rattle.lexical_format.specs.declared.options.Options.{Options}
 use Rattle.lexical_format.specs.Format.{readingFormat}
-use Rattle.lexical_read_float.specs.Shape.{Shape, WellFormed, print}
-use Rattle.lexical_read_float.specs.Parse.{shapeOf, WrongAt}
-use Rattle.lexical_read_float.specs.Round.{tooLarge, Nearest}
-use Rattle.lexical_read_float.specs.Read.{grammarOf, numerator, denominator, readFloat}
+use Rattle.lexical_reading.specs.Shape.{Shape, WellFormed, print}
+use Rattle.lexical_reading.specs.Parse.{shapeOf, WrongAt}
+use Rattle.lexical_reading.specs.Round.{tooLarge, Nearest}
+use Rattle.lexical_reading.specs.Read.{grammarOf, numerator, denominator, readFloat}
 
 -- what is printed is read back as the same shape
 abbrev pub PrintedIsRead : Type 0

@@ -12,9 +12,9 @@ use Rattle.lexical_format.specs.declared.format.NumberFormat.{NumberFormat}
 use Rattle.lexical_format.specs.declared.options.Options.{Options}
 use Rattle.lexical_format.specs.Format.{readingFormat}
 use Rattle.lexical_text.specs.Write.{writeText}
-use Rattle.lexical_read_float.specs.Shape.{Shape, WellFormed, print}
-use Rattle.lexical_read_float.specs.Parse.{shapeOf}
-use Rattle.lexical_read_float.specs.Read.{grammarOf, numerator, denominator, readFloat}
+use Rattle.lexical_reading.specs.Shape.{Shape, WellFormed, print}
+use Rattle.lexical_reading.specs.Parse.{shapeOf}
+use Rattle.lexical_reading.specs.Read.{grammarOf, numerator, denominator, readFloat}
 
 -- t is the text of a shape, and is read back as that shape
 pub record ReadAsShape (F : NumberFormat) (o : Options) (t : List ℕ) : Type 0 where

@@ -17,9 +17,9 @@ use Rattle.lexical_text.specs.declared.layout.Layout.{Layout}
 use Rattle.lexical_text.specs.declared.layout.Layout.the-variants.{Scientific, Negative, Positive}
 use Rattle.lexical_text.specs.Value.{modulo, exactDigits}
 use Rattle.lexical_text.specs.Text.{zeros, point, least, trim, layoutOf, scientific, exponentSign, exponentText, negative, positive, laidOut, digitsSoFar, text}
-use Rattle.lexical_read_float.specs.Shape.{Grammar, Sign, unsigned, plus, minus, Tail, absent, exponent, Shape, signBytes, tailBytes, print}
-use Rattle.lexical_read_float.specs.Parse.{withTail}
-use Rattle.lexical_read_float.specs.Read.{grammarOf}
+use Rattle.lexical_reading.specs.Shape.{Grammar, Sign, unsigned, plus, minus, Tail, absent, exponent, Shape, signBytes, tailBytes, print}
+use Rattle.lexical_reading.specs.Parse.{withTail}
+use Rattle.lexical_reading.specs.Read.{grammarOf}
 
 -- ---- bytes of digits
 take-map : (n : ℕ) (ds : List ℕ) → take n (map digitByte ds) ≡ map digitByte (take n ds)

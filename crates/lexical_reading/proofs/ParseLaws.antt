@@ -10,9 +10,9 @@ use borrow.Author.Tests.{eq-eqb, ne-eqb, ltb-true, ltb-false}
 use lib.Dec.{ltb, eqb}
 use Rattle.lexical_util.specs.Digit.{digitByte, digitIn, AreDigits}
 use Rattle.lexical_util.proofs.DigitLaws.{byte-figure, byte-capital}
-use Rattle.lexical_read_float.specs.Shape.{Grammar, Sign, unsigned, plus, minus, Tail, absent, exponent, Shape, signBytes, tailBytes, fractionBytes, print, Some, TailFits, FractionFits, WellFormed}
-use Rattle.lexical_read_float.specs.Parse.{Run, found, mapParsed, allDigits, exponentDigits, signedExponent, parseTail, withTail, afterWhole, oneOrMore, parse}
-use Rattle.lexical_read_float.proofs.RunLaws.{Head, Ends, run-digits, run-all}
+use Rattle.lexical_reading.specs.Shape.{Grammar, Sign, unsigned, plus, minus, Tail, absent, exponent, Shape, signBytes, tailBytes, fractionBytes, print, Some, TailFits, FractionFits, WellFormed}
+use Rattle.lexical_reading.specs.Parse.{Run, found, mapParsed, allDigits, exponentDigits, signedExponent, parseTail, withTail, afterWhole, oneOrMore, parse}
+use Rattle.lexical_reading.proofs.RunLaws.{Head, Ends, run-digits, run-all}
 
 -- what check 3 and the checks of the radices give: point and mark are no digits of the radix, and differ
 pub record Apart (G : Grammar) : Type 0 where

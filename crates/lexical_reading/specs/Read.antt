@@ -11,13 +11,9 @@ use Rattle.lexical_format.specs.declared.format.Pair.{Pair}
 use Rattle.lexical_format.specs.declared.format.NumberFormat.{NumberFormat}
 use Rattle.lexical_format.specs.declared.options.Options.{Options}
 use Rattle.lexical_format.specs.Format.{readingFormat}
-use Rattle.lexical_read_float.specs.declared.read.ReadF64.{ReadF64}
-use Rattle.lexical_read_float.specs.declared.read.ReadF64.the-variants.{Float as Float64, Refused as Refused64}
-use Rattle.lexical_read_float.specs.declared.read.ReadF32.{ReadF32}
-use Rattle.lexical_read_float.specs.declared.read.ReadF32.the-variants.{Float as Float32, Refused as Refused32}
-use Rattle.lexical_read_float.specs.Shape.{Grammar, unsigned, plus, minus, Tail, absent, exponent, Shape}
-use Rattle.lexical_read_float.specs.Parse.{shapeOf}
-use Rattle.lexical_read_float.specs.Round.{tooLarge}
+use Rattle.lexical_reading.specs.Shape.{Grammar, unsigned, plus, minus, Tail, absent, exponent, Shape}
+use Rattle.lexical_reading.specs.Parse.{shapeOf}
+use Rattle.lexical_reading.specs.Round.{tooLarge}
 
 abbrev pub grammarOf : NumberFormat → Options → Grammar
 grammarOf F o = record { radix = F .«mantissa_radix»; exponentRadix = F .«exponent_radix»; point = o .«decimal_point»; mark = o .exponent }
@@ -73,12 +69,3 @@ readText f G t row = checked ((12, ltb 4096 (length t)) ∷ []) (andThen (shapeO
 -- 1, 2, 3
 unfoldable pub readFloat : Format → NumberFormat → Options → List ℕ → Answer Float
 readFloat f F o t = andThen (readingFormat F o) (readText f (grammarOf F o) t)
-
--- ---- document 01's number and values for each case of the answers
-abbrev pub ofReadF64 : ReadF64 → Answer Float
-ofReadF64 (Float64 x) = done x
-ofReadF64 (Refused64 r) = refused (r .number) (r .place)
-
-abbrev pub ofReadF32 : ReadF32 → Answer Float
-ofReadF32 (Float32 x) = done x
-ofReadF32 (Refused32 r) = refused (r .number) (r .place)

@@ -1,5 +1,0 @@
-// Reading a float's text.
-pub mod read;
-
-pub use read::ReadF32;
-pub use read::ReadF64;

@@ -1,0 +1,1 @@
+// What reading a float is: definitions and laws, and no code.

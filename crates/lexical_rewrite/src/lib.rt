@@ -1,1 +1,0 @@
-// Rewriting a float's text from one format to another.

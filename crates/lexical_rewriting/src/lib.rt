@@ -1,0 +1,1 @@
+// What writing and reading say together: definitions and laws, and no code.
