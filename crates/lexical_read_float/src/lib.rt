@@ -1,0 +1,2 @@
+// Reading a float's text.
+mod kept;
