@@ -1,2 +1,3 @@
 // Reading a float's text.
+mod digits;
 mod kept;

@@ -1,0 +1,2 @@
+pub mod DigitRunLaws
+pub mod KeepLaws
