@@ -1,2 +1,3 @@
 pub mod DigitRunLaws
 pub mod KeepLaws
+pub mod ScanLaws

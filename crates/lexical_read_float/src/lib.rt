@@ -1,3 +1,4 @@
 // Reading a float's text.
 mod digits;
 mod kept;
+mod scan;

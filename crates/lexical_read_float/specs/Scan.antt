@@ -1,0 +1,59 @@
+-- What the code's one pass over a text finds, by the shape that the text has. No exported contract cites it. Definitions only.
+use Prim.Native.Nat.{ℕ, _-_, _*_, _≤_, min}
+use mathlib.Core.Bool.{Bool, false}
+use mathlib.Core.List.{List, [], _∷_, _++_}
+use lib.Dec.{eqb}
+use lib.ListN.{length}
+use Rattle.lexical_reading.specs.Shape.{Grammar, Tail, Shape}
+use Rattle.lexical_reading.specs.Parse.{Parsed, found, stuck}
+use Rattle.lexical_reading.specs.Read.{magnitude, isNegative, exponentPlace}
+use Rattle.lexical_read_float.specs.declared.kept.Kept.{Kept}
+use Rattle.lexical_read_float.specs.declared.scan.Exponent.{Exponent}
+use Rattle.lexical_read_float.specs.declared.scan.ScannedTail.{ScannedTail}
+use Rattle.lexical_read_float.specs.declared.scan.ScannedTail.the-variants as tail
+use Rattle.lexical_read_float.specs.declared.scan.Number.{Number}
+use Rattle.lexical_read_float.specs.declared.scan.Scanned.{Scanned}
+use Rattle.lexical_read_float.specs.declared.scan.Scanned.the-variants as scanned
+use Rattle.lexical_read_float.specs.Kept.{empty, keepDigits}
+
+abbrev pub grammar : ℕ → ℕ → ℕ → ℕ → Grammar
+grammar radix exponentRadix point mark = record { radix = radix; exponentRadix = exponentRadix; point = point; mark = mark }
+
+-- whether a text begins with a byte
+abbrev pub beginsWith : ℕ → List ℕ → Bool
+beginsWith byte [] = false
+beginsWith byte (x ∷ xs) = eqb x byte
+
+-- the exponent of a text t
+abbrev pub exponentOf : List ℕ → ℕ → Tail → Exponent
+exponentOf t radix τ = record { negative = isNegative τ; magnitude = min (magnitude radix τ) 32768; place = exponentPlace t τ }
+
+abbrev pub scannedTail : List ℕ → ℕ → Parsed Tail → ScannedTail
+scannedTail t radix (found τ) = tail.Found (exponentOf t radix τ)
+scannedTail t radix (stuck left) = tail.Wrong (length t - length left)
+
+-- a mantissa with what stands behind it
+abbrev pub scannedNumber : Kept → ℕ → ScannedTail → Scanned
+scannedNumber kept fraction (tail.Found exponent) = scanned.Found (record { kept = kept; fraction = fraction; exponent = exponent })
+scannedNumber kept fraction (tail.Wrong place) = scanned.Wrong place
+
+-- the numbers of a text t of shape s, whose digits have b bits
+abbrev pub numberOf : List ℕ → ℕ → ℕ → Shape → Number
+numberOf t b exponentRadix s = record {
+  kept = keepDigits b empty (s .whole ++ s .fraction);
+  fraction = length (s .fraction);
+  exponent = exponentOf t exponentRadix (s .tail);
+}
+
+abbrev pub scannedShape : List ℕ → ℕ → ℕ → Parsed Shape → Scanned
+scannedShape t b exponentRadix (found s) = scanned.Found (numberOf t b exponentRadix s)
+scannedShape t b exponentRadix (stuck left) = scanned.Wrong (length t - length left)
+
+-- numbers small enough for the sums that a value needs
+pub record Bounded (n : Number) : Type 0 where
+  pub few-below : n .kept .below ≤ 20480
+  pub few-digits : n .fraction ≤ 4096
+
+abbrev pub IsBounded : Scanned → Type 0
+IsBounded (scanned.Found n) = Bounded n
+IsBounded (scanned.Wrong place) = Unit {0}

@@ -1,0 +1,152 @@
+// The shape of a text, found in one pass, with the numbers that its parts spell; or the place of refusal 9.
+ghost use mathlib.Core.Path.{_≡_};
+ghost use mathlib.Core.List.{[]};
+ghost use Prim.Native.Nat.{ℕ, _+_, _≤_, _<_};
+ghost use lib.ListN.{length, drop};
+ghost use Rattle.lexical_reading.specs.Shape.{Sign, exponent};
+ghost use Rattle.lexical_reading.specs.Parse.{exponentDigits, signedExponent, parseTail, parse};
+ghost use Rattle.lexical_reading.specs.Read.{isNegative};
+ghost use Rattle.lexical_read_float.specs.Scan.{grammar, beginsWith, scannedTail, scannedNumber, scannedShape, IsBounded};
+use crate::digits::exponent_digits;
+use crate::digits::mantissa_digits;
+use crate::kept::Kept;
+
+// A text's exponent: its sign, its magnitude or 32,768 for any above, and the place of its first digit. Without one, 0 at the text's end.
+pub(crate) struct Exponent {
+    pub negative: bool,
+    pub magnitude: u32,
+    pub place: usize,
+}
+
+pub(crate) enum ScannedTail {
+    Found(Exponent),
+    Wrong(usize),
+}
+
+// What a text spells: its digits, how many of them stand behind the point, and its exponent.
+pub(crate) struct Number {
+    pub kept: Kept,
+    pub fraction: usize,
+    pub exponent: Exponent,
+}
+
+pub(crate) enum Scanned {
+    Found(Number),
+    Wrong(usize),
+}
+
+// One or more exponent digits from a place on, and nothing behind them.
+fn scan_exponent_digits(text: &[u8], from: usize, radix: u32, negative: bool) -> ScannedTail
+    requires { ⌜ (from ≤ length (now text)) × (1 ≤ radix) × (radix ≤ 32) ⌝ }
+    ensures { λ r. ⌜ ((s : Sign) → isNegative (exponent s []) ≡ negative → r ≡ scannedTail (now (text .entry)) radix (exponentDigits radix s (drop from (now (text .entry))))) ⌝ }
+{
+    let digits = exponent_digits(text, from, radix);
+    let end = digits.end;
+    if end == from {
+        return ScannedTail::Wrong(from);
+    }
+    if end < text.len() {
+        return ScannedTail::Wrong(end);
+    }
+    ScannedTail::Found(Exponent {
+        negative,
+        magnitude: digits.magnitude,
+        place: from,
+    })
+}
+
+// Behind the mark: a "+" or "-" or neither, then the digits.
+fn scan_exponent(text: &[u8], from: usize, radix: u32) -> ScannedTail
+    requires { ⌜ (from ≤ length (now text)) × (1 ≤ radix) × (radix ≤ 32) ⌝ }
+    ensures { λ r. ⌜ r ≡ scannedTail (now (text .entry)) radix (signedExponent radix (drop from (now (text .entry)))) ⌝ }
+{
+    if from == text.len() {
+        return ScannedTail::Wrong(from);
+    }
+    let byte = text[from];
+    if byte == b'+' {
+        return scan_exponent_digits(text, from + 1, radix, false);
+    }
+    if byte == b'-' {
+        return scan_exponent_digits(text, from + 1, radix, true);
+    }
+    scan_exponent_digits(text, from, radix, false)
+}
+
+// Behind the mantissa: nothing, or the mark and an exponent.
+fn scan_tail(text: &[u8], from: usize, radix: u32, mark: u8) -> ScannedTail
+    requires { ⌜ (from ≤ length (now text)) × (1 ≤ radix) × (radix ≤ 32) ⌝ }
+    ensures { λ r. ⌜ ((mantissaRadix point : ℕ) → r ≡ scannedTail (now (text .entry)) radix (parseTail (grammar mantissaRadix radix point mark) (drop from (now (text .entry))))) ⌝ }
+{
+    if from == text.len() {
+        return ScannedTail::Found(Exponent {
+            negative: false,
+            magnitude: 0,
+            place: from,
+        });
+    }
+    if text[from] != mark {
+        return ScannedTail::Wrong(from);
+    }
+    scan_exponent(text, from + 1, radix)
+}
+
+// The mantissa's digits with what stands behind them.
+fn with_tail(kept: Kept, fraction: usize, tail: ScannedTail) -> Scanned
+    ensures { λ r. ⌜ r ≡ scannedNumber kept fraction tail ⌝ }
+{
+    match tail {
+        ScannedTail::Found(exponent) => Scanned::Found(Number {
+            kept,
+            fraction,
+            exponent,
+        }),
+        ScannedTail::Wrong(place) => Scanned::Wrong(place),
+    }
+}
+
+// Whether a byte stands at a place.
+fn stands_at(text: &[u8], at: usize, byte: u8) -> bool
+    requires { ⌜ at ≤ length (now text) ⌝ }
+    ensures { λ r. ⌜ r ≡ beginsWith byte (drop at (now (text .entry))) ⌝ }
+{
+    if at == text.len() {
+        return false;
+    }
+    text[at] == byte
+}
+
+// A text's numbers, or the first place at which no text has this byte.
+pub(crate) fn scan(
+    text: &[u8],
+    radix: u32,
+    b: u32,
+    exponent_radix: u32,
+    point: u8,
+    mark: u8,
+) -> Scanned
+    requires { ⌜ (length (now text) ≤ 4096) × (b ≤ 5) × (1 ≤ «exponent_radix») × («exponent_radix» ≤ 32) ⌝ }
+    ensures { λ r. ⌜ r ≡ scannedShape (now (text .entry)) b «exponent_radix» (parse (grammar radix «exponent_radix» point mark) (now (text .entry))) ⌝ }
+    ensures bounded { λ r. ⌜ IsBounded r ⌝ }
+{
+    let start = Kept {
+        bits: 0,
+        below: 0,
+        clear: true,
+    };
+    let whole = mantissa_digits(text, 0, radix, b, start);
+    let end = whole.end;
+    let kept = whole.kept;
+    if end == 0 {
+        return Scanned::Wrong(0);
+    }
+    if stands_at(text, end, point) {
+        let from = end + 1;
+        let fraction = mantissa_digits(text, from, radix, b, kept);
+        let all = fraction.kept;
+        let tail = scan_tail(text, fraction.end, exponent_radix, mark);
+        return with_tail(all, fraction.end - from, tail);
+    }
+    let tail = scan_tail(text, end, exponent_radix, mark);
+    with_tail(kept, 0, tail)
+}
