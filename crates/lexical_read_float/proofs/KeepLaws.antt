@@ -2,7 +2,7 @@
 use Prim.Native.Nat.{ℕ, _+_, _*_, _%_, _^_, _≤_, _<_}
 use mathlib.Core.Path.{_≡_, refl, sym, ap, _∙_}
 use mathlib.Core.Bool.{Bool, true, false, cond, _&&_}
-use mathlib.Core.List.{List, [], _∷_, _++_}
+use mathlib.Core.List.{List, [], _∷_}
 use native.Mathlib.Nat.{le-trans, mul-le-mul-left, mod-eq-of-lt}
 use native.Mathlib.Omega.{arith}
 use borrow.Author.Tests.{lt-ltb, le-ltb}
@@ -51,8 +51,3 @@ module _ (b : ℕ) (k : Kept) (ds : List ℕ) (w : Kept) (makes : keepDigits b k
   pub kept-on : (d : ℕ) (r : Kept) (rest : List ℕ) → ds ≡ d ∷ rest → r ≡ keepDigit b k d → keepDigits b r rest ≡ w
   unfolding keepDigits
   kept-on d r rest e f = ap (λ (x : Kept). keepDigits b x rest) f ∙ ap (keepDigits b k) (sym e) ∙ makes
-
-pub keep-append : (b : ℕ) (k : Kept) (xs ys : List ℕ) → keepDigits b (keepDigits b k xs) ys ≡ keepDigits b k (xs ++ ys)
-unfolding keepDigits
-keep-append b k [] ys = refl
-keep-append b k (x ∷ xs) ys = keep-append b (keepDigit b k x) xs ys

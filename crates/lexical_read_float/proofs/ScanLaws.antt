@@ -24,7 +24,7 @@ use Rattle.lexical_read_float.specs.declared.scan.Scanned.the-variants a
 use Rattle.lexical_read_float.specs.Kept.{empty, keepDigits}
 use Rattle.lexical_read_float.specs.Scan.{grammar, beginsWith, exponentOf, scannedTail, scannedNumber, scannedShape, IsBounded}
 use Rattle.lexical_read_float.proofs.DigitRunLaws.{digitsFrom, endFrom}
-use Rattle.lexical_read_float.proofs.KeepLaws.{keep-append}
+use Rattle.lexical_read_float.proofs.KeptLaws.{keep-append}
 
 -- ---- places
 -- what is left at place k tells k

@@ -1,2 +1,5 @@
 pub mod Kept
 pub mod Scan
+pub mod Rounding
+pub mod Bits
+pub mod Answer

@@ -1,12 +1,12 @@
 -- The laws of reading, of every format that passes the reader's checks and of every text. Assumes nothing.
-use Prim.Native.Nat.{ℕ, _-_, _*_, _<_}
+use Prim.Native.Nat.{ℕ, _-_, _*_, _≤_, _<_}
 use mathlib.Core.Path.{_≡_, refl, sym, ap, subst}
 use mathlib.Core.Bool.{Bool, true, false, cond}
 use mathlib.Core.List.{List}
 use mathlib.Core.Option.{Option, none, some}
 use native.Mathlib.Omega.{arith}
 use native.Mathlib.Nat.{mul-pos}
-use borrow.Author.Tests.{ne-eqb, eqb-false}
+use borrow.Author.Tests.{lt-ltb, le-ltb, ne-eqb, eqb-false}
 use lib.Dec.{ltb}
 use lib.Pow.{pow-pos, pow-mono}
 use lib.ListN.{length}
@@ -24,7 +24,7 @@ use Rattle.lexical_reading.specs.Shape.{Shape, print}
 use Rattle.lexical_reading.specs.Parse.{Parsed, found, stuck, parse, ofParsed, shapeOf, WrongAt}
 use Rattle.lexical_reading.specs.Round.{tooLarge, Nearest}
 use Rattle.lexical_reading.specs.Read.{grammarOf, magnitude, isNegative, basePower, numerator, denominator, floatOf, exponentTooLarge, exponentPlace, valueOf, readText, readFloat}
-use Rattle.lexical_reading.specs.Claims.{PrintedIsRead, FoundIsPrinted, PlaceIsLeast, RoundIsNearest, OnlyOneIsNearest, NearestToText, ReadIsNearest}
+use Rattle.lexical_reading.specs.Claims.{PrintedIsRead, FoundIsPrinted, PlaceIsLeast, RoundIsNearest, OnlyOneIsNearest, NearestToText, ReadIsNearest, IsNearest, TextsAreServed}
 use Rattle.lexical_reading.proofs.ParseLaws.{Apart, parse-print}
 use Rattle.lexical_reading.proofs.PlaceLaws.{found-prints, wrong-at}
 use Rattle.lexical_reading.proofs.NearestLaws.{round-nearest, only-nearest}
@@ -124,3 +124,30 @@ read-is-nearest f F o t x h = go (readingFormat F o) refl h
     go : (a : Answer Pair) → readingFormat F o ≡ a → andThen a (readText f (grammarOf F o) t) ≡ done x → NearestToText f F o t x
     go (done row) e q = short row e (ltb 4096 (length t)) q
     go (refused n i) e q = absurd (refused-done n i x q)
+
+pub answer-nearest : (f : Format) (F : NumberFormat) (o : Options) (t : List ℕ) → IsNearest f F o t (readFloat f F o t)
+answer-nearest f F o t = go (readFloat f F o t) refl
+  where
+    go : (a : Answer Float) → readFloat f F o t ≡ a → IsNearest f F o t a
+    go (done x) e = read-is-nearest f F o t x e
+    go (refused n p) e = tt
+
+-- ---- the value, once test 10 is decided
+module _ (f : Format) (row : Pair) (power : ℕ) (t : List ℕ) (s : Shape) where
+  abbrev decided : Bool → Answer Float
+  decided b = elim b [ true ↦ refused 10 (exponentPlace t (s .tail)) | false ↦ floatOf f (numerator row power s) (denominator row power s) ]
+
+  pub value-within : magnitude power (s .tail) ≤ 32767 → valueOf f row power t s ≡ floatOf f (numerator row power s) (denominator row power s)
+  unfolding valueOf exponentTooLarge
+  value-within h = ap decided (le-ltb 32767 (magnitude power (s .tail)) h)
+
+  pub value-beyond : 32767 < magnitude power (s .tail) → valueOf f row power t s ≡ refused 10 (exponentPlace t (s .tail))
+  unfolding valueOf exponentTooLarge
+  value-beyond h = ap decided (lt-ltb 32767 (magnitude power (s .tail)) h)
+
+-- ---- no text of a shape is refused
+pub texts-are-served : TextsAreServed
+unfolding readFloat readText floatOf
+texts-are-served f F o t row s e short formed printed small below =
+    let shaped : shapeOf (grammarOf F o) t ≡ done s = subst (λ (u : List ℕ). shapeOf (grammarOf F o) u ≡ done s) printed (printed-is-read F o row s e formed) in
+    rw (e, le-ltb 4096 (length t) short, shaped, value-within f row (F .«exponent_radix») t s small, below)

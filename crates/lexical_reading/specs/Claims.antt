@@ -1,10 +1,11 @@
 -- What the laws of reading say, of every format that passes the reader's checks 1, 2, 3. Statements only; `ReadLaws` proves them.
-use Prim.Native.Nat.{ℕ, _<_}
+use Prim.Native.Nat.{ℕ, _≤_, _<_}
 use mathlib.Core.Path.{_≡_}
 use mathlib.Core.Bool.{Bool, false}
 use mathlib.Core.List.{List}
+use lib.ListN.{length}
 use lib.Ieee.{Float, Format, round}
-use Rattle.lexical_util.specs.Answer.{done, refused}
+use Rattle.lexical_util.specs.Answer.{Answer, done, refused}
 use Rattle.lexical_format.specs.declared.format.Pair.{Pair}
 use Rattle.lexical_format.specs.declared.format.NumberFormat.{NumberFormat}
 use Rattle.lexical_format.specs.declared.options.Options.{Options}
@@ -12,7 +13,7 @@ use Rattle.lexical_format.specs.Format.{readingFormat}
 use Rattle.lexical_reading.specs.Shape.{Shape, WellFormed, print}
 use Rattle.lexical_reading.specs.Parse.{shapeOf, WrongAt}
 use Rattle.lexical_reading.specs.Round.{tooLarge, Nearest}
-use Rattle.lexical_reading.specs.Read.{grammarOf, numerator, denominator, readFloat}
+use Rattle.lexical_reading.specs.Read.{grammarOf, magnitude, numerator, denominator, readFloat}
 
 -- what is printed is read back as the same shape
 abbrev pub PrintedIsRead : Type 0
@@ -50,3 +51,19 @@ pub record NearestToText (f : Format) (F : NumberFormat) (o : Options) (t : List
 
 abbrev pub ReadIsNearest : Type 0
 ReadIsNearest = (f : Format) (F : NumberFormat) (o : Options) (t : List ℕ) (x : Float) → readFloat f F o t ≡ done x → NearestToText f F o t x
+
+-- what is said of an answer besides: a float answered is nearest,
+abbrev pub IsNearest : Format → NumberFormat → Options → List ℕ → Answer Float → Type 0
+IsNearest f F o t (done x) = NearestToText f F o t x
+IsNearest f F o t (refused n p) = Unit {0}
+
+-- and the text of a shape, of at most 4,096 bytes, in a format that passes the reader's checks, with an exponent of at most 32,767 and a value that is not too large, is never refused
+abbrev pub IsServed : Format → NumberFormat → Options → List ℕ → Answer Float → Type 0
+IsServed f F o t answer =
+    (row : Pair) (s : Shape) → readingFormat F o ≡ done row → length t ≤ 4096 → WellFormed (grammarOf F o) s → print (grammarOf F o) s ≡ t
+    → magnitude (F .«exponent_radix») (s .tail) ≤ 32767
+    → tooLarge f (numerator row (F .«exponent_radix») s) (denominator row (F .«exponent_radix») s) ≡ false
+    → answer ≡ done (round f false (numerator row (F .«exponent_radix») s) (denominator row (F .«exponent_radix») s))
+
+abbrev pub TextsAreServed : Type 0
+TextsAreServed = (f : Format) (F : NumberFormat) (o : Options) (t : List ℕ) → IsServed f F o t (readFloat f F o t)

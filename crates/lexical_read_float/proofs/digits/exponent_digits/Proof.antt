@@ -1,17 +1,14 @@
-use Prim.Native.Nat.{ℕ, _+_, _-_, _*_, _≤_, min}
-use mathlib.Core.Path.{_≡_, refl}
+-- `lexical_read_float::digits::exponent_digits` meets its contract: at each place the digits still to come, added to the sum so far, make the whole, cut off at 32,768. Assumes nothing.
+use Prim.Native.Nat.{_-_, _≤_, min}
 use mathlib.Core.List.{[]}
+use mathlib.Core.Path.{_≡_, refl}
 use native.Mathlib.Omega.{arith}
 use borrow.Author.Needs.{needs}
 use lib.ListN.{length}
 use Rattle.lexical_util.specs.Digit.{readOn, digitsValue}
 use Rattle.lexical_read_float.proofs.DigitRunLaws.{no-digit, digit-below, digit-above, digitsFrom, from-more, from-stop, from-end, endFrom, end-here, end-on, sum-done, sum-on, product-small}
-use Rattle.lexical_read_float.proofs.digits.exponent_digits.Statement.{statement}
 use Rattle.lexical_read_float.proofs.digits.exponent_digits.Tie as tie
-use Rattle.lexical_read_float.proofs.digits.exponent_digits.Reads as reads
-use Rattle.lexical_read_float.proofs.digits.exponent_digits.Lts as lts
-use Rattle.lexical_read_float.proofs.digits.saturated.Reads as saturated-reads
-use Rattle.lexical_util.proofs.digit_value.Reads as digit-value-reads
+use Rattle.lexical_read_float.proofs.digits.exponent_digits.Statement.{statement}
 
 abbrev Inv-loop : tie.InvT-loop
 Inv-loop text from radix magnitude₀ i₀ magnitude i =
@@ -21,7 +18,6 @@ Inv-loop text from radix magnitude₀ i₀ magnitude i =
 abbrev μ-loop : tie.MeasureT-loop
 μ-loop text from radix magnitude₀ i₀ magnitude i = length text - i
 
--- src/digits.rt:86:5
 abbrev Answer : (c : tie.At-loop Inv-loop μ-loop) → Type 0
 Answer c =
     let a = c .before .before .args in
@@ -35,59 +31,45 @@ stopped c e = (end-here _ _ _ _ (c .loop .inv .2) e, sum-done _ _ _ _ (c .loop .
 loop-holds : tie.Need-loop-holds Inv-loop μ-loop
 loop-holds c = (omega arith, omega arith, refl, refl)
 
--- src/digits.rt:87:52
 shared-slice-read-digit-value : tie.Need-shared-slice-read-digit-value Inv-loop μ-loop
 shared-slice-read-digit-value c = search needs
 
--- src/digits.rt:87:40
 digit-value-requires : tie.Need-digit-value-requires Inv-loop μ-loop
 digit-value-requires c κs = search needs
 
--- src/digits.rt:87:31
 enum-known-digit : tie.Need-enum-known-digit Inv-loop μ-loop
 enum-known-digit c = search needs
 
--- src/digits.rt:88:13
 enum-told : tie.Need-enum-told Inv-loop μ-loop
 enum-told c = search needs
 
--- src/digits.rt:88:13
 returns : tie.Need-returns Inv-loop μ-loop
 returns c = let v = c .before .before in stopped (v .before .before .before) (from-stop _ _ _ (v .before .before .loop-test .taken) (no-digit _ _ _ (v .digit-value .ensures) (c .enum-told .given .1)))
 
--- src/digits.rt:90:12
 cast-if1 : tie.Need-cast-if1 Inv-loop μ-loop
 cast-if1 c = search needs
 
--- src/digits.rt:91:13
 returns-2 : tie.Need-returns-2 Inv-loop μ-loop
 returns-2 c = let v = c .before .before .before .before in stopped (v .before .before .before) (from-stop _ _ _ (v .before .before .loop-test .taken) (digit-above _ _ _ (v .digit-value .ensures) _ (c .before .before .digit .given .1) (c .if1 .taken)))
 
--- src/digits.rt:93:31
 mul-saturated : tie.Need-mul-saturated Inv-loop μ-loop
 mul-saturated c = omega (arith, product-small (c .before .before .before .before .before .before .before .loop .magnitude) (c .before .before .before .before .before .before .before .before .before .args .radix) (omega arith) (omega arith))
 
--- src/digits.rt:93:51
 cast-saturated : tie.Need-cast-saturated Inv-loop μ-loop
 cast-saturated c = search needs
 
--- src/digits.rt:93:31
 add-saturated : tie.Need-add-saturated Inv-loop μ-loop
 add-saturated c = omega (arith, product-small (c .before .before .before .before .before .before .before .loop .magnitude) (c .before .before .before .before .before .before .before .before .before .args .radix) (omega arith) (omega arith))
 
--- src/digits.rt:93:9
 saturated-requires : tie.Need-saturated-requires Inv-loop μ-loop
 saturated-requires c κs = search needs
 
--- src/digits.rt:94:9
 add-i : tie.Need-add-i Inv-loop μ-loop
 add-i c = search needs
 
--- src/digits.rt:86:5
 loop-less : tie.Need-loop-less Inv-loop μ-loop
 loop-less c = search needs
 
--- src/digits.rt:86:5
 loop-again : tie.Need-loop-again Inv-loop μ-loop
 loop-again c =
     let v = c .before .before .before .before .before in
@@ -95,7 +77,6 @@ loop-again c =
     let d = from-more _ _ (at .loop .i) _ (v .before .before .loop-test .taken) (digit-below _ _ _ (v .digit-value .ensures) _ (c .before .before .before .digit .given .1) (c .before .if1 .left)) in
     (omega arith, omega (arith, c .saturated .ensures), end-on _ _ _ _ (at .loop .inv .2) _ d, sum-on _ _ _ _ (at .loop .inv .3) _ _ _ (at .before .before .pre .1) d (c .saturated .ensures))
 
--- src/digits.rt:80:1
 returns-3 : tie.Need-returns-3 Inv-loop μ-loop
 returns-3 c = stopped (c .before) (from-end _ _ _ (c .loop-test .left))
 

@@ -1,19 +1,16 @@
-use Prim.Native.Nat.{ℕ, _+_, _-_, _*_, _≤_}
-use mathlib.Core.Path.{_≡_, refl, sym, ap, _∙_}
+-- `lexical_read_float::digits::mantissa_digits` meets its contract: at each place the digits still to come, kept behind those kept so far, make the whole. Assumes nothing.
+use Prim.Native.Nat.{_-_, _*_, _≤_}
 use mathlib.Core.List.{[]}
+use mathlib.Core.Path.{_≡_, refl, ap}
 use native.Mathlib.Omega.{arith}
 use borrow.Author.Needs.{needs}
 use lib.ListN.{length}
-use Rattle.lexical_read_float.specs.declared.kept.Kept.{Kept}
-use Rattle.lexical_read_float.specs.Kept.{keepDigits}
 use Rattle.lexical_read_float.proofs.DigitRunLaws.{no-digit, digit-below, digit-above, digitsFrom, from-more, from-stop, from-end, endFrom, end-here, end-on}
+use Rattle.lexical_read_float.specs.declared.kept.Kept.{Kept}
 use Rattle.lexical_read_float.proofs.KeepLaws.{below-grows, kept-done, kept-on}
-use Rattle.lexical_read_float.proofs.digits.mantissa_digits.Statement.{statement}
+use Rattle.lexical_read_float.specs.Kept.{keepDigits}
 use Rattle.lexical_read_float.proofs.digits.mantissa_digits.Tie as tie
-use Rattle.lexical_read_float.proofs.digits.mantissa_digits.Reads as reads
-use Rattle.lexical_read_float.proofs.digits.mantissa_digits.Lts as lts
-use Rattle.lexical_read_float.proofs.digits.keep_digit.Reads as keep-digit-reads
-use Rattle.lexical_util.proofs.digit_value.Reads as digit-value-reads
+use Rattle.lexical_read_float.proofs.digits.mantissa_digits.Statement.{statement}
 
 abbrev Inv-loop : tie.InvT-loop
 Inv-loop text from radix b kept₀ i₀ kept i =
@@ -22,7 +19,6 @@ Inv-loop text from radix b kept₀ i₀ kept i =
 abbrev μ-loop : tie.MeasureT-loop
 μ-loop text from radix b kept₀ i₀ kept i = length text - i
 
--- src/digits.rt:59:5
 abbrev Answer : (c : tie.At-loop Inv-loop μ-loop) → Type 0
 Answer c =
     let a = c .before .before .args in
@@ -36,47 +32,36 @@ stopped c e = (end-here _ _ _ _ (c .loop .inv .2) e, kept-done _ _ _ _ (c .loop 
 loop-holds : tie.Need-loop-holds Inv-loop μ-loop
 loop-holds c = (omega arith, omega arith, refl, refl)
 
--- src/digits.rt:60:52
 shared-slice-read-digit-value : tie.Need-shared-slice-read-digit-value Inv-loop μ-loop
 shared-slice-read-digit-value c = search needs
 
--- src/digits.rt:60:40
 digit-value-requires : tie.Need-digit-value-requires Inv-loop μ-loop
 digit-value-requires c κs = search needs
 
--- src/digits.rt:60:31
 enum-known-digit : tie.Need-enum-known-digit Inv-loop μ-loop
 enum-known-digit c = search needs
 
--- src/digits.rt:61:13
 enum-told : tie.Need-enum-told Inv-loop μ-loop
 enum-told c = search needs
 
--- src/digits.rt:61:13
 returns : tie.Need-returns Inv-loop μ-loop
 returns c = let v = c .before .before in stopped (v .before .before .before) (from-stop _ _ _ (v .before .before .loop-test .taken) (no-digit _ _ _ (v .digit-value .ensures) (c .enum-told .given .1)))
 
--- src/digits.rt:63:12
 cast-if1 : tie.Need-cast-if1 Inv-loop μ-loop
 cast-if1 c = search needs
 
--- src/digits.rt:64:13
 returns-2 : tie.Need-returns-2 Inv-loop μ-loop
 returns-2 c = let v = c .before .before .before .before in stopped (v .before .before .before) (from-stop _ _ _ (v .before .before .loop-test .taken) (digit-above _ _ _ (v .digit-value .ensures) _ (c .before .before .digit .given .1) (c .if1 .taken)))
 
--- src/digits.rt:66:9
 keep-digit-requires : tie.Need-keep-digit-requires Inv-loop μ-loop
 keep-digit-requires c κs = search needs
 
--- src/digits.rt:67:9
 add-i : tie.Need-add-i Inv-loop μ-loop
 add-i c = search needs
 
--- src/digits.rt:59:5
 loop-less : tie.Need-loop-less Inv-loop μ-loop
 loop-less c = search needs
 
--- src/digits.rt:59:5
 loop-again : tie.Need-loop-again Inv-loop μ-loop
 loop-again c =
     let v = c .before .before .before .before .before in
@@ -84,7 +69,6 @@ loop-again c =
     let d = from-more _ _ (at .loop .i) _ (v .before .before .loop-test .taken) (digit-below _ _ _ (v .digit-value .ensures) _ (c .before .before .before .digit .given .1) (c .before .if1 .left)) in
     (omega arith, omega (arith, below-grows (at .before .before .args .b) (at .loop .kept) (c .before .before .before .digit .given .0 .0), ap (λ (k : Kept). k .below) (c .keep-digit .ensures)), end-on _ _ _ _ (at .loop .inv .2) _ d, kept-on _ _ _ _ (at .loop .inv .3) _ _ _ d (c .keep-digit .ensures))
 
--- src/digits.rt:47:1
 returns-3 : tie.Need-returns-3 Inv-loop μ-loop
 returns-3 c = stopped (c .before) (from-end _ _ _ (c .loop-test .left))
 

@@ -1,24 +1,18 @@
+-- `lexical_read_float::scan::scan` meets its contract: no digit in front, a point behind the digits, or none. Assumes nothing.
 use Prim.Native.Nat.{_+_, _-_, _<_}
 use mathlib.Core.Path.{sym, ap, _∙_}
 use native.Mathlib.Omega.{arith}
+use borrow.Author.Needs.{needs}
 use lib.ListN.{length}
 use Rattle.lexical_reading.specs.Shape.{Grammar}
-use Rattle.lexical_read_float.specs.declared.kept.Kept.{Kept}
-use Rattle.lexical_read_float.specs.Kept.{keepDigits}
+use Rattle.lexical_read_float.proofs.ScanLaws.{begins-inside, text-empty, text-plain, text-point, number-bounded}
 use Rattle.lexical_read_float.specs.Scan.{grammar}
 use Rattle.lexical_read_float.proofs.DigitRunLaws.{digitsFrom}
-use Rattle.lexical_read_float.proofs.ScanLaws.{begins-inside, text-empty, text-plain, text-point, number-bounded}
-use borrow.Author.Needs.{needs}
+use Rattle.lexical_read_float.specs.declared.kept.Kept.{Kept}
+use Rattle.lexical_read_float.specs.Kept.{keepDigits}
 use Rattle.lexical_read_float.proofs.scan.scan.Statement.{statement}
 use Rattle.lexical_read_float.proofs.scan.scan.Tie as tie
-use Rattle.lexical_read_float.proofs.scan.scan.Reads as reads
-use Rattle.lexical_read_float.proofs.scan.scan.Lts as lts
-use Rattle.lexical_read_float.proofs.digits.mantissa_digits.Reads as mantissa-digits-reads
-use Rattle.lexical_read_float.proofs.scan.scan_tail.Reads as scan-tail-reads
-use Rattle.lexical_read_float.proofs.scan.stands_at.Reads as stands-at-reads
-use Rattle.lexical_read_float.proofs.scan.with_tail.Reads as with-tail-reads
 
--- src/scan.rt:137:9
 abbrev grammarIn : tie.Start → Grammar
 grammarIn c = grammar (c .args .radix) (c .args .exponent-radix) (c .args .point) (c .args .mark)
 
@@ -29,38 +23,30 @@ inside c = begins-inside _ _ _ (c .before .before .before .before .mantissa-digi
 mantissa-digits-requires : tie.Need-mantissa-digits-requires
 mantissa-digits-requires c κs = search needs
 
--- src/scan.rt:141:9
 returns : tie.Need-returns
 returns c = let m = c .before .before in (text-empty (m .before .before .args .text .now) (m .before .before .args .b) (grammarIn (m .before .before)) _ (m .mantissa-digits .ensures .0) (c .if1 .taken), tt)
 
--- src/scan.rt:143:8
 stands-at-requires : tie.Need-stands-at-requires
 stands-at-requires c κs = search needs
 
--- src/scan.rt:144:20
 add-from : tie.Need-add-from
 add-from c = search needs
 
--- src/scan.rt:145:13
 mantissa-digits-requires-2 : tie.Need-mantissa-digits-requires-2
 mantissa-digits-requires-2 c κs =
     let m = c .before .before .before .before in
     let h = inside c in
     (omega arith, omega arith, omega arith, omega (arith, m .mantissa-digits .ensures .2))
 
--- src/scan.rt:147:13
 scan-tail-requires : tie.Need-scan-tail-requires
 scan-tail-requires c κs = search needs
 
--- src/scan.rt:148:31
 sub-with-tail : tie.Need-sub-with-tail
 sub-with-tail c = search needs
 
--- src/scan.rt:148:9
 with-tail-requires : tie.Need-with-tail-requires
 with-tail-requires c κs = search needs
 
--- src/scan.rt:148:9
 returns-2 : tie.Need-returns-2
 returns-2 c =
     let f = c .before .before .before .before in
@@ -71,15 +57,12 @@ returns-2 c =
       number-bounded (f .mantissa-digits2 .result .kept) (f .mantissa-digits2 .result .end - (m .mantissa-digits .result .end + 1)) (c .before .before .scan-tail .result) _ (omega (arith, f .mantissa-digits2 .ensures .2, f .mantissa-digits2 .ensures .3)) (omega arith) (c .with-tail .ensures),
     )
 
--- src/scan.rt:150:9
 scan-tail-requires-2 : tie.Need-scan-tail-requires-2
 scan-tail-requires-2 c κs = search needs
 
--- src/scan.rt:151:5
 with-tail-requires-2 : tie.Need-with-tail-requires-2
 with-tail-requires-2 c κs = search needs
 
--- src/scan.rt:120:1
 returns-3 : tie.Need-returns-3
 returns-3 c =
     let e = c .before .before .before .before in

@@ -1,52 +1,40 @@
+-- `lexical_read_float::scan::scan_exponent` meets its contract: one law for each sign. Assumes nothing.
 use mathlib.Core.Path.{refl, sym, ap, _∙_}
 use native.Mathlib.Omega.{arith}
-use Rattle.lexical_reading.specs.Shape.{unsigned, plus, minus}
-use Rattle.lexical_read_float.specs.Scan.{scannedTail}
-use Rattle.lexical_read_float.proofs.ScanLaws.{sign-missing, sign-plus, sign-minus, sign-none}
 use borrow.Author.Needs.{needs}
+use Rattle.lexical_reading.specs.Shape.{unsigned, plus, minus}
+use Rattle.lexical_read_float.proofs.ScanLaws.{sign-missing, sign-plus, sign-minus, sign-none}
+use Rattle.lexical_read_float.specs.Scan.{scannedTail}
 use Rattle.lexical_read_float.proofs.scan.scan_exponent.Statement.{statement}
 use Rattle.lexical_read_float.proofs.scan.scan_exponent.Tie as tie
-use Rattle.lexical_read_float.proofs.scan.scan_exponent.Reads as reads
-use Rattle.lexical_read_float.proofs.scan.scan_exponent.Lts as lts
-use Rattle.lexical_read_float.proofs.scan.scan_exponent_digits.Reads as scan-exponent-digits-reads
 
--- src/scan.rt:65:9
 returns : tie.Need-returns
 returns c = sign-missing _ _ _ (c .if1 .taken)
 
--- src/scan.rt:67:16
 shared-slice-read-byte : tie.Need-shared-slice-read-byte
 shared-slice-read-byte c = search needs
 
--- src/scan.rt:69:43
 add-scan-exponent-digits : tie.Need-add-scan-exponent-digits
 add-scan-exponent-digits c = search needs
 
--- src/scan.rt:69:9
 scan-exponent-digits-requires : tie.Need-scan-exponent-digits-requires
 scan-exponent-digits-requires c κs = search needs
 
--- src/scan.rt:69:9
 returns-2 : tie.Need-returns-2
 returns-2 c = let a = c .before .before .before .before .before .args in c .scan-exponent-digits .ensures plus refl ∙ ap (scannedTail (a .text .now) (a .radix)) (sym (sign-plus (a .text .now) (a .radix) (a .from) (omega arith) (c .before .if2 .taken)))
 
--- src/scan.rt:72:43
 add-scan-exponent-digits-2 : tie.Need-add-scan-exponent-digits-2
 add-scan-exponent-digits-2 c = search needs
 
--- src/scan.rt:72:9
 scan-exponent-digits-requires-2 : tie.Need-scan-exponent-digits-requires-2
 scan-exponent-digits-requires-2 c κs = search needs
 
--- src/scan.rt:72:9
 returns-3 : tie.Need-returns-3
 returns-3 c = let a = c .before .before .before .before .before .before .args in c .scan-exponent-digits2 .ensures minus refl ∙ ap (scannedTail (a .text .now) (a .radix)) (sym (sign-minus (a .text .now) (a .radix) (a .from) (omega arith) (c .before .if3 .taken)))
 
--- src/scan.rt:74:5
 scan-exponent-digits-requires-3 : tie.Need-scan-exponent-digits-requires-3
 scan-exponent-digits-requires-3 c κs = search needs
 
--- src/scan.rt:60:1
 returns-4 : tie.Need-returns-4
 returns-4 c = let a = c .before .before .before .before .before .before .args in c .scan-exponent-digits3 .ensures unsigned refl ∙ ap (scannedTail (a .text .now) (a .radix)) (sym (sign-none (a .text .now) (a .radix) (a .from) (omega arith) (c .before .before .if2 .left) (c .before .if3 .left)))
 

@@ -1,26 +1,20 @@
+-- `lexical_read_float::scan::scan_exponent_digits` meets its contract: no digit, a byte behind the digits, or nothing behind them. Assumes nothing.
 use mathlib.Core.Path.{sym, _∙_}
 use native.Mathlib.Omega.{arith}
-use Rattle.lexical_read_float.proofs.ScanLaws.{digits-none, digits-more, digits-all}
 use borrow.Author.Needs.{needs}
-use Rattle.lexical_read_float.proofs.scan.scan_exponent_digits.Statement.{statement}
+use Rattle.lexical_read_float.proofs.ScanLaws.{digits-none, digits-more, digits-all}
 use Rattle.lexical_read_float.proofs.scan.scan_exponent_digits.Tie as tie
-use Rattle.lexical_read_float.proofs.scan.scan_exponent_digits.Reads as reads
-use Rattle.lexical_read_float.proofs.scan.scan_exponent_digits.Lts as lts
-use Rattle.lexical_read_float.proofs.digits.exponent_digits.Reads as exponent-digits-reads
+use Rattle.lexical_read_float.proofs.scan.scan_exponent_digits.Statement.{statement}
 
--- src/scan.rt:44:9
 exponent-digits-requires : tie.Need-exponent-digits-requires
 exponent-digits-requires c κs = search needs
 
--- src/scan.rt:47:9
 returns : tie.Need-returns
 returns c = λ s e. digits-none _ _ s _ (c .before .before .before .pre .0) (sym (c .before .exponent-digits .ensures .0) ∙ c .if1 .taken)
 
--- src/scan.rt:50:9
 returns-2 : tie.Need-returns-2
 returns-2 c = λ s e. digits-more _ _ s _ _ (c .before .before .exponent-digits .ensures .0) (c .before .if1 .left) (c .if2 .taken)
 
--- src/scan.rt:40:1
 returns-3 : tie.Need-returns-3
 returns-3 c = λ s e. let d = c .before .before .exponent-digits .ensures in digits-all _ _ s _ _ (d .0) (c .before .if1 .left) (omega arith) _ _ e (d .1)
 

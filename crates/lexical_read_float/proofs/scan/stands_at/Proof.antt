@@ -1,20 +1,16 @@
+-- `lexical_read_float::scan::stands_at` meets its contract: by whether the text goes on. Assumes nothing.
 use native.Mathlib.Omega.{arith}
-use Rattle.lexical_read_float.proofs.ScanLaws.{begins-end, begins-byte}
 use borrow.Author.Needs.{needs}
+use Rattle.lexical_read_float.proofs.ScanLaws.{begins-end, begins-byte}
 use Rattle.lexical_read_float.proofs.scan.stands_at.Statement.{statement}
 use Rattle.lexical_read_float.proofs.scan.stands_at.Tie as tie
-use Rattle.lexical_read_float.proofs.scan.stands_at.Reads as reads
-use Rattle.lexical_read_float.proofs.scan.stands_at.Lts as lts
 
--- src/scan.rt:114:9
 returns : tie.Need-returns
 returns c = begins-end _ _ _ (c .if1 .taken)
 
--- src/scan.rt:116:5
 shared-slice-read-result : tie.Need-shared-slice-read-result
 shared-slice-read-result c = search needs
 
--- src/scan.rt:109:1
 returns-2 : tie.Need-returns-2
 returns-2 c = let a = c .before .before .args in begins-byte (a .text .now) (a .at) (a .byte) (omega arith)
 

@@ -1,0 +1,134 @@
+-- A text in a format that passed the reader's check: what the scan of it says of its shape, and what its bits stand for. Assumes nothing.
+use Prim.Native.Nat.{ℕ, zero, suc, _-_, _*_, _%_, _^_, _≤_, _<_}
+use mathlib.Core.Path.{_≡_, refl, sym, ap, _∙_, subst}
+use mathlib.Core.Bool.{Bool, not}
+use mathlib.Core.List.{List, [], _∷_, _++_}
+use native.Mathlib.Nat.{le-trans, le-of-lt, mod-le, suc-mul, zero-mul}
+use native.Mathlib.Omega.{arith}
+use borrow.Author.Tests.{lt-ltb, le-ltb}
+use lib.Arith.{le→nltb}
+use lib.Dec.{T}
+use lib.ListN.{length}
+use lib.Ieee.{Float, Format, hid, ones, top, nanBits}
+use lib.Ieee.Bits.{nanBits-above}
+use Rattle.lexical_util.specs.Answer.{Answer, done, refused, andThen}
+use Rattle.lexical_util.specs.Digit.{AreDigits}
+use Rattle.lexical_util.proofs.RadixLaws.{radix-bounds}
+use Rattle.lexical_format.specs.declared.format.Pair.{Pair}
+use Rattle.lexical_format.specs.declared.format.NumberFormat.{NumberFormat}
+use Rattle.lexical_format.specs.declared.options.Options.{Options}
+use Rattle.lexical_format.specs.Format.{readingFormat}
+use Rattle.lexical_format.proofs.FormatLaws.{IsPair, readable}
+use Rattle.lexical_reading.specs.Shape.{Shape}
+use Rattle.lexical_reading.specs.Parse.{Parsed, found, stuck, parse, ofParsed, shapeOf}
+use Rattle.lexical_reading.specs.Read.{grammarOf, valueOf, readText, readFloat}
+use Rattle.lexical_reading.specs.Claims.{IsNearest, IsServed}
+use Rattle.lexical_reading.proofs.ReadLaws.{found-is-printed, answer-nearest, texts-are-served}
+use Rattle.lexical_read_float.specs.declared.scan.Number.{Number}
+use Rattle.lexical_read_float.specs.declared.scan.Scanned.{Scanned}
+use Rattle.lexical_read_float.specs.declared.scan.Scanned.the-variants as scanned
+use Rattle.lexical_read_float.specs.Kept.{empty, keepDigits}
+use Rattle.lexical_read_float.specs.Scan.{numberOf, scannedShape}
+use Rattle.lexical_read_float.specs.declared.bits.FloatBits.{FloatBits}
+use Rattle.lexical_read_float.specs.Bits.{ofFloatBits}
+use Rattle.lexical_read_float.specs.Rounding.{IsFull}
+use Rattle.lexical_read_float.proofs.KeptLaws.{digits-full}
+
+-- ---- the numbers of a format that passed
+pub record Small (F : NumberFormat) (row : Pair) : Type 0 where
+  pub digit-bits : row .b ≤ 5
+  pub base-bits : row .c ≤ 5
+  pub some-power : 1 ≤ F .«exponent_radix»
+  pub small-power : F .«exponent_radix» ≤ 32
+
+-- c divides b, which is not 0
+divisor-le : (q c b : ℕ) → q * c ≡ b → 0 < b → c ≤ b
+divisor-le zero c b e h = absurd (let z = zero-mul c in omega arith)
+divisor-le (suc q) c b e h = let z = suc-mul q c in omega arith
+
+pub small : (F : NumberFormat) (o : Options) (row : Pair) → readingFormat F o ≡ done row → Small F row
+small F o row e =
+    let r = readable F o row e in
+    let p = r .pair in
+    let w = radix-bounds (F .«exponent_radix») (r .power) in
+    record {
+      digit-bits = p .few-bits;
+      base-bits = le-trans (divisor-le _ (row .c) (row .b) (p .whole) (p .some-bits)) (p .few-bits);
+      some-power = omega arith;
+      small-power = w .1;
+    }
+
+-- ---- a text that was scanned
+pub record IsNumberOf (f : Format) (F : NumberFormat) (o : Options) (row : Pair) (t : List ℕ) (n : Number) : Type 0 where
+  pub shape : Shape
+  pub is : n ≡ numberOf t (row .b) (F .«exponent_radix») shape
+  pub digits : AreDigits (2 ^ row .b) (shape .whole ++ shape .fraction)
+  pub reads : valueOf f row (F .«exponent_radix») t shape ≡ readText f (grammarOf F o) t row
+  pub full : IsFull (n .kept)
+
+all-append : (radix : ℕ) (xs ys : List ℕ) → AreDigits radix xs → AreDigits radix ys → AreDigits radix (xs ++ ys)
+all-append radix [] ys p q = q
+all-append radix (x ∷ xs) ys p q = (p .0, all-append radix xs ys (p .1) q)
+
+module _ (f : Format) (F : NumberFormat) (o : Options) (row : Pair) (t : List ℕ) where
+  pub text-long : 4096 < length t → refused 12 0 ≡ readText f (grammarOf F o) t row
+  unfolding readText
+  text-long h = rw (lt-ltb 4096 (length t) h)
+
+  by-shape : length t ≤ 4096 → readText f (grammarOf F o) t row ≡ andThen (shapeOf (grammarOf F o) t) (valueOf f row (F .«exponent_radix») t)
+  unfolding readText
+  by-shape h = rw (le-ltb 4096 (length t) h)
+
+  module _ (r : Scanned) (is : r ≡ scannedShape t (row .b) (F .«exponent_radix») (parse (grammarOf F o) t)) (short : length t ≤ 4096) where
+    pub text-wrong : (place : ℕ) → r ≡ scanned.Wrong place → refused 9 place ≡ readText f (grammarOf F o) t row
+    unfolding shapeOf
+    text-wrong place e = go (parse (grammarOf F o) t) refl (sym is ∙ e)
+      where
+        go : (p : Parsed Shape) → parse (grammarOf F o) t ≡ p → scannedShape t (row .b) (F .«exponent_radix») p ≡ scanned.Wrong place → refused 9 place ≡ readText f (grammarOf F o) t row
+        go (found s) q w = absurd (let z : _≡_ {A = ℕ} 0 1 = cc in omega arith)
+        go (stuck left) q w = let same : place ≡ length t - length left = cc in ap (refused 9) same ∙ sym (by-shape short ∙ ap (λ (x : Parsed Shape). andThen (ofParsed t x) (valueOf f row (F .«exponent_radix») t)) q)
+
+    pub text-found : (n : Number) → readingFormat F o ≡ done row → r ≡ scanned.Found n → IsNumberOf f F o row t n
+    unfolding shapeOf
+    text-found n admitted e = go (parse (grammarOf F o) t) refl (sym is ∙ e)
+      where
+        go : (p : Parsed Shape) → parse (grammarOf F o) t ≡ p → scannedShape t (row .b) (F .«exponent_radix») p ≡ scanned.Found n → IsNumberOf f F o row t n
+        go (stuck left) q w = absurd (let z : _≡_ {A = ℕ} 0 1 = cc in omega arith)
+        go (found s) q w =
+            let same : n ≡ numberOf t (row .b) (F .«exponent_radix») s = cc in
+            let shaped : shapeOf (grammarOf F o) t ≡ done s = ap (ofParsed t) q in
+            let formed = found-is-printed F o row t s admitted shaped .0 in
+            let radix = readable F o row admitted .radix-is in
+            record {
+              shape = s;
+              is = same;
+              digits = all-append (2 ^ row .b) (s .whole) (s .fraction) (rw radix at (formed .whole-digits)) (rw radix at (formed .fraction-digits));
+              reads = sym (by-shape short ∙ ap (λ (x : Answer Shape). andThen x (valueOf f row (F .«exponent_radix») t)) shaped);
+              full = rw same (digits-full (row .b) (s .whole ++ s .fraction));
+            }
+
+-- ---- the format's check in front
+module _ (f : Format) (F : NumberFormat) (o : Options) (t : List ℕ) where
+  pub read-passed : (row : Pair) (a : Answer Float) → readingFormat F o ≡ done row → a ≡ readText f (grammarOf F o) t row → a ≡ readFloat f F o t
+  unfolding readFloat
+  read-passed row a e q = q ∙ sym (ap (λ (x : Answer Pair). andThen x (readText f (grammarOf F o) t)) e)
+
+  pub read-refused : (n p : ℕ) → readingFormat F o ≡ refused n p → refused n p ≡ readFloat f F o t
+  unfolding readFloat
+  read-refused n p e = sym (ap (λ (x : Answer Pair). andThen x (readText f (grammarOf F o) t)) e)
+
+  -- what is said of the definition's answer is said of an answer that equals it
+  pub nearest-of : (a : Answer Float) → a ≡ readFloat f F o t → IsNearest f F o t a
+  nearest-of a e = subst (IsNearest f F o t) (sym e) (answer-nearest f F o t)
+
+  pub served-of : (a : Answer Float) → a ≡ readFloat f F o t → IsServed f F o t a
+  served-of a e = subst (IsServed f F o t) (sym e) (texts-are-served f F o t)
+
+-- ---- finite bits are no NaN's
+pub no-nan : (f : Format) (n : ℕ) → n < ones f * hid f → T (not (nanBits f n))
+no-nan f n h = rw (nanBits-above f n) (le→nltb (ones f * hid f) (n % top f) (le-trans (mod-le n (top f)) (le-of-lt h)))
+
+-- ---- the answer of each width, from the bits that both share
+module _ (f : Format) (F : NumberFormat) (o : Options) (t : List ℕ) (r : FloatBits) (is : ofFloatBits f r ≡ readFloat f F o t) where
+  pub said : (x : FloatBits) → r ≡ x → (ofFloatBits f x ≡ readFloat f F o t) × (IsNearest f F o t (ofFloatBits f x) × IsServed f F o t (ofFloatBits f x))
+  said x e = let q = sym (ap (ofFloatBits f) e) ∙ is in (q, (nearest-of f F o t (ofFloatBits f x) q, served-of f F o t (ofFloatBits f x) q))

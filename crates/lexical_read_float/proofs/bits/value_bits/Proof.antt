@@ -1,0 +1,80 @@
+-- `lexical_read_float::bits::value_bits` meets its contract: the numbers of a text make the numerator and the denominator of its value. Assumes nothing.
+use Prim.Native.Nat.{_*_, _≤_}
+use mathlib.Core.Path.{_∙_}
+use native.Mathlib.Omega.{arith}
+use borrow.Author.Needs.{needs}
+use Rattle.lexical_float.specs.Encoding.{formatOf}
+use Rattle.lexical_read_float.proofs.BitsLaws.{product-le, refused-ten, value-divided, value-multiplied, kept-holds}
+use Rattle.lexical_read_float.proofs.bits.value_bits.Statement.{statement}
+use Rattle.lexical_read_float.proofs.bits.value_bits.Tie as tie
+
+places-small : (c : tie.Start) → c .args .row .b * c .args .number .fraction ≤ 5 * 4096
+places-small c = product-le _ _ 5 4096 (c .pre .2) (c .pre .0 .few-digits)
+
+power-small : (c : tie.Else1) → c .before .before .before .args .row .c * c .before .before .before .args .number .exponent .magnitude ≤ 5 * 32767
+power-small c = product-le _ _ 5 32767 (c .before .before .before .pre .3) (c .if1 .left)
+
+returns : tie.Need-returns
+returns c = (λ t power s are is. let a = c .before .before .before .args in refused-ten _ (a .row) power t s (a .number) is (c .if1 .taken), tt)
+
+cast-places : tie.Need-cast-places
+cast-places c = search needs
+
+mul-places : tie.Need-mul-places
+mul-places c = omega (arith, places-small (c .before .before .before .before .before))
+
+mul-power : tie.Need-mul-power
+mul-power c = omega (arith, power-small (c .before .before .before))
+
+add-round-kept : tie.Need-add-round-kept
+add-round-kept c = omega (arith, places-small (c .before .before .before .before .before .before .before), power-small (c .before .before .before .before))
+
+round-kept-requires : tie.Need-round-kept-requires
+round-kept-requires c κs =
+    let s = c .before .before .before .before .before .before .before in
+    (s .pre .1, s .pre .0 .few-below, omega arith, omega (arith, places-small s, power-small (c .before .before .before .before)))
+
+rounded-bits-requires : tie.Need-rounded-bits-requires
+rounded-bits-requires c κs = search needs
+
+returns-2 : tie.Need-returns-2
+returns-2 c =
+    let x = c .before .before .before .before .before .before in
+    let a = x .before .before .before .args in
+    let f = formatOf (a .width) in (
+      λ t power s are is. value-divided f (a .row) power t s (a .number) is _ (x .if1 .left) (c .before .before .if2 .taken) (c .rounded-bits .ensures .0 f ∙ c .before .round-kept .ensures .0 _ (kept-holds f (a .row) power t s (a .number) is are)),
+      c .rounded-bits .ensures .1 f (c .before .round-kept .ensures .1),
+    )
+
+round-kept-requires-2 : tie.Need-round-kept-requires-2
+round-kept-requires-2 c κs =
+    let s = c .before .before .before .before .before .before .before in
+    (s .pre .1, s .pre .0 .few-below, omega (arith, power-small (c .before .before .before .before)), omega (arith, places-small s))
+
+rounded-bits-requires-2 : tie.Need-rounded-bits-requires-2
+rounded-bits-requires-2 c κs = search needs
+
+returns-3 : tie.Need-returns-3
+returns-3 c =
+    let x = c .before .before .before .before .before .before in
+    let a = x .before .before .before .args in
+    let f = formatOf (a .width) in (
+      λ t power s are is. value-multiplied f (a .row) power t s (a .number) is _ (x .if1 .left) (c .before .before .if2 .left) (c .rounded-bits2 .ensures .0 f ∙ c .before .round-kept2 .ensures .0 _ (kept-holds f (a .row) power t s (a .number) is are)),
+      c .rounded-bits2 .ensures .1 f (c .before .round-kept2 .ensures .1),
+    )
+
+pub value-bits-spec : {M : Type 1} → statement M
+value-bits-spec =
+    tie.close
+    (tie.spec
+    returns
+    cast-places
+    mul-places
+    mul-power
+    add-round-kept
+    round-kept-requires
+    rounded-bits-requires
+    returns-2
+    round-kept-requires-2
+    rounded-bits-requires-2
+    returns-3)

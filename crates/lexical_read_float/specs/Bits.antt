@@ -1,0 +1,16 @@
+-- What the bits that both widths share stand for. No exported contract cites it. Definitions only.
+use Prim.Native.Nat.{_<_}
+use lib.Ieee.{Float, Format, ofBits}
+use Rattle.lexical_util.specs.Answer.{Answer, done, refused}
+use Rattle.lexical_round.specs.Pattern.{infinity}
+use Rattle.lexical_read_float.specs.declared.bits.FloatBits.{FloatBits}
+use Rattle.lexical_read_float.specs.declared.bits.FloatBits.the-variants.{Bits, Refused}
+
+abbrev pub ofFloatBits : Format → FloatBits → Answer Float
+ofFloatBits f (Bits n) = done (ofBits f n)
+ofFloatBits f (Refused r) = refused (r .number) (r .place)
+
+-- bits below the infinity's
+abbrev pub AreFinite : Format → FloatBits → Type 0
+AreFinite f (Bits n) = n < infinity f
+AreFinite f (Refused r) = Unit {0}

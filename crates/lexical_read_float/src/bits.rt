@@ -1,0 +1,113 @@
+// The bits of the float that a text is read as, or the first refusal: one body on u64, with the width beside it.
+ghost use mathlib.Core.Path.{_≡_};
+ghost use mathlib.Core.List.{List, _++_};
+ghost use Prim.Native.Nat.{ℕ, _^_, _≤_};
+ghost use lib.Ieee.{Format};
+ghost use Rattle.lexical_util.specs.Answer.{done};
+ghost use Rattle.lexical_util.specs.Digit.{AreDigits};
+ghost use Rattle.lexical_float.specs.Encoding.{formatOf};
+ghost use Rattle.lexical_format.specs.Format.{readingFormat};
+ghost use Rattle.lexical_reading.specs.Shape.{Shape};
+ghost use Rattle.lexical_reading.specs.Read.{grammarOf, valueOf, readText, readFloat};
+ghost use Rattle.lexical_read_float.specs.Scan.{numberOf, Bounded};
+ghost use Rattle.lexical_read_float.specs.Rounding.{IsFull, ofRounded, IsFinite};
+ghost use Rattle.lexical_read_float.specs.Bits.{ofFloatBits, AreFinite};
+use crate::round::Rounded;
+use crate::round::round_kept;
+use crate::scan::Number;
+use crate::scan::Scanned;
+use crate::scan::scan;
+use lexical_float::Width;
+use lexical_format::NumberFormat;
+use lexical_format::Options;
+use lexical_format::Pair;
+use lexical_format::ReadingCheck;
+use lexical_util::Refusal;
+
+pub(crate) enum FloatBits {
+    Bits(u64),
+    Refused(Refusal),
+}
+
+// 11: too large.
+fn rounded_bits(rounded: Rounded) -> FloatBits
+    ensures { λ r. ⌜ ((f : Format) → ofFloatBits f r ≡ ofRounded f rounded) ⌝ }
+    ensures finite { λ r. ⌜ ((f : Format) → IsFinite f rounded → AreFinite f r) ⌝ }
+{
+    match rounded {
+        Rounded::Bits(bits) => FloatBits::Bits(bits),
+        Rounded::TooLarge => FloatBits::Refused(Refusal {
+            number: 11,
+            place: 0,
+        }),
+    }
+}
+
+// The value of a text's numbers: digits behind the point and a negative exponent divide. 10 comes before the powers are formed.
+fn value_bits(number: Number, row: Pair, width: Width) -> FloatBits
+    requires { ⌜ Bounded number × IsFull (number .kept) × (row .b ≤ 5) × (row .c ≤ 5) ⌝ }
+    ensures { λ r. ⌜ ((t : List ℕ) (power : ℕ) (s : Shape) → AreDigits (2 ^ row .b) (s .whole ++ s .fraction) → number ≡ numberOf t (row .b) power s → ofFloatBits (formatOf width) r ≡ valueOf (formatOf width) row power t s) ⌝ }
+    ensures finite { λ r. ⌜ AreFinite (formatOf width) r ⌝ }
+{
+    let exponent = number.exponent;
+    let kept = number.kept;
+    let magnitude = exponent.magnitude;
+    if magnitude > 32767 {
+        return FloatBits::Refused(Refusal {
+            number: 10,
+            place: exponent.place,
+        });
+    }
+    let places = row.b * number.fraction as u32;
+    let power = row.c * magnitude;
+    if exponent.negative {
+        let rounded = round_kept(kept, 0, places + power, width);
+        return rounded_bits(rounded);
+    }
+    let rounded = round_kept(kept, power, places, width);
+    rounded_bits(rounded)
+}
+
+// A text in a format that passed the check with the row: 12, 9, then its value.
+fn text_bits(
+    text: &[u8],
+    format: NumberFormat,
+    options: Options,
+    row: Pair,
+    width: Width,
+) -> FloatBits
+    requires { ⌜ readingFormat format options ≡ done row ⌝ }
+    ensures { λ r. ⌜ ofFloatBits (formatOf width) r ≡ readText (formatOf width) (grammarOf format options) (now (text .entry)) row ⌝ }
+    ensures finite { λ r. ⌜ AreFinite (formatOf width) r ⌝ }
+{
+    if text.len() > 4096 {
+        return FloatBits::Refused(Refusal {
+            number: 12,
+            place: 0,
+        });
+    }
+    let radix = format.mantissa_radix;
+    let power = format.exponent_radix;
+    let point = options.decimal_point;
+    let mark = options.exponent;
+    match scan(text, radix, row.b, power, point, mark) {
+        Scanned::Found(number) => value_bits(number, row, width),
+        Scanned::Wrong(place) => FloatBits::Refused(Refusal { number: 9, place }),
+    }
+}
+
+// The same in any format, whose refusals come first.
+pub(crate) fn read_bits(
+    text: &[u8],
+    format: NumberFormat,
+    options: Options,
+    width: Width,
+) -> FloatBits
+    ensures { λ r. ⌜ ofFloatBits (formatOf width) r ≡ readFloat (formatOf width) format options (now (text .entry)) ⌝ }
+    ensures finite { λ r. ⌜ AreFinite (formatOf width) r ⌝ }
+{
+    match lexical_format::check_reading(format, options) {
+        ReadingCheck::Passed(row) => text_bits(text, format, options, row, width),
+        ReadingCheck::Refused(refusal) => FloatBits::Refused(refusal),
+    }
+}

@@ -1,0 +1,4 @@
+pub mod GuardLaws
+pub mod DropLaws
+pub mod PatternLaws
+pub mod RoundLaws
