@@ -1,39 +1,49 @@
 -- The digits in a text from a place on, one byte at a time, and a sum of digits that saturates. Assumes nothing.
 use Prim.Native.Nat.{ℕ, suc, _+_, _*_, _≤_, _<_, min}
 use mathlib.Core.Path.{_≡_, refl, sym, ap, _∙_, subst}
-use mathlib.Core.Bool.{Bool, true, false}
+use mathlib.Core.Bool.{Bool, true, false, _&&_}
 use mathlib.Core.List.{List, [], _∷_}
 use mathlib.Core.Option.{Option, none, some}
 use native.Mathlib.Nat.{le-trans, mul-one, mul-le-mul-left, mul-le-mul-right}
 use native.Mathlib.Numerals.{add-one}
 use native.Mathlib.Omega.{arith}
 use borrow.Author.Tests.{lt-ltb, le-ltb, ltb-true, ltb-false}
-use lib.Dec.{ltb}
+use lib.Dec.{ltb, eqb}
 use lib.ListN.{length, drop, getD, drop-of-length-le}
 use lib.Seq.{drop-cons}
-use Rattle.lexical_util.specs.declared.digit.DigitValue.{DigitValue}
-use Rattle.lexical_util.specs.declared.digit.DigitValue.the-variants.{Digit, NoDigit}
-use Rattle.lexical_util.specs.Digit.{digitValue, digitIn, ofDigitValue, readOn, digitsValue}
-use Rattle.lexical_reading.specs.Parse.{Run, more, run}
+use Rattle.lexical_util.specs.Digit.{digitValue, below, digitIn, readOn}
+use Rattle.lexical_reading.specs.Parse.{more, run}
+use Rattle.lexical_read_float.specs.Digits.{orNone, digitsFrom, endFrom, allZero}
 
--- ---- the digit of a radix that a byte is, by the answer of `digit_value`
-module _ (radix x : ℕ) (v : DigitValue) (is : ofDigitValue v ≡ digitValue x) where
-  pub no-digit : v ≡ NoDigit → digitIn radix x ≡ none
-  unfolding digitIn
-  no-digit e = rw (sym is, e)
+-- ---- the digit of a radix that a byte is, by its digit value or 255
+pub digit-below : (radix x d : ℕ) → radix ≤ 32 → d ≡ orNone (digitValue x) → d < radix → digitIn radix x ≡ some d
+unfolding digitIn
+digit-below radix x d r e h = go (digitValue x) e
+  where
+    go : (o : Option ℕ) → d ≡ orNone o → below radix o ≡ some d
+    go none q = absurd (omega arith)
+    go (some v) q = rw (sym q, lt-ltb d radix h)
 
-  pub digit-below : (d : ℕ) → v ≡ Digit d → d < radix → digitIn radix x ≡ some d
-  unfolding digitIn
-  digit-below d e h = rw (sym is, e, lt-ltb d radix h)
+pub digit-above : (radix x d : ℕ) → d ≡ orNone (digitValue x) → radix ≤ d → digitIn radix x ≡ none
+unfolding digitIn
+digit-above radix x d e h = go (digitValue x) e
+  where
+    go : (o : Option ℕ) → d ≡ orNone o → below radix o ≡ none
+    go none q = refl
+    go (some v) q = rw (sym q, le-ltb d radix h)
 
-  pub digit-above : (d : ℕ) → v ≡ Digit d → radix ≤ d → digitIn radix x ≡ none
-  unfolding digitIn
-  digit-above d e h = rw (sym is, e, le-ltb d radix h)
+pub and-true : (a : Bool) → (a && true) ≡ a
+and-true true = refl
+and-true false = refl
+
+pub and-assoc : (a b c : Bool) → ((a && b) && c) ≡ (a && (b && c))
+and-assoc true b c = refl
+and-assoc false b c = refl
+
+pub cons-nil : (d : ℕ) (ds : List ℕ) → d ∷ ds ≡ [] → ⊥
+cons-nil d ds e = let z : _≡_ {A = ℕ} 0 1 = cc in omega arith
 
 -- ---- the digits from place i on
-abbrev pub digitsFrom : ℕ → List ℕ → ℕ → List ℕ
-digitsFrom radix t i = run radix (drop i t) .got
-
 got-more : (radix x d : ℕ) (xs : List ℕ) → digitIn radix x ≡ some d → run radix (x ∷ xs) .got ≡ d ∷ run radix xs .got
 unfolding run
 got-more radix x d xs e = ap (λ (o : Option ℕ). more x xs o (run radix xs) .got) e
@@ -56,10 +66,6 @@ module _ (radix : ℕ) (t : List ℕ) (i : ℕ) where
   pub from-end : length t ≤ i → digitsFrom radix t i ≡ []
   unfolding run
   from-end h = at _ (drop-of-length-le t h)
-
--- where they end
-abbrev pub endFrom : ℕ → List ℕ → ℕ → ℕ
-endFrom radix t i = i + length (digitsFrom radix t i)
 
 -- a loop has come from place `from` to i, and the digits from either end at the same place
 module _ (radix : ℕ) (t : List ℕ) (from i : ℕ) (ends : endFrom radix t i ≡ endFrom radix t from) where
@@ -100,3 +106,12 @@ module _ (radix x : ℕ) (ds : List ℕ) (w : ℕ) (makes : min (readOn radix x 
 
 pub product-small : (x radix : ℕ) → x ≤ 32768 → radix ≤ 32 → x * radix ≤ 1048576
 product-small x radix h k = le-trans (mul-le-mul-left x k) (mul-le-mul-right 32 h)
+
+-- ---- whether all digits are 0: those so far, and those still to come
+pub zeros-done : (clear : Bool) (ds : List ℕ) (w : Bool) → (clear && allZero ds) ≡ w → ds ≡ [] → clear ≡ w
+unfolding allZero
+zeros-done clear ds w makes e = sym (and-true clear) ∙ ap (λ (l : List ℕ). clear && allZero l) (sym e) ∙ makes
+
+pub zeros-on : (clear : Bool) (ds : List ℕ) (w : Bool) (d : ℕ) (rest : List ℕ) → (clear && allZero ds) ≡ w → ds ≡ d ∷ rest → ((clear && eqb d 0) && allZero rest) ≡ w
+unfolding allZero
+zeros-on clear ds w d rest makes e = and-assoc clear (eqb d 0) (allZero rest) ∙ ap (λ (l : List ℕ). clear && allZero l) (sym e) ∙ makes

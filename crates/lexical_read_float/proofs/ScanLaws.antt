@@ -23,7 +23,7 @@ use Rattle.lexical_read_float.specs.declared.scan.Scanned.{Scanned}
 use Rattle.lexical_read_float.specs.declared.scan.Scanned.the-variants as scanned
 use Rattle.lexical_read_float.specs.Kept.{empty, keepDigits}
 use Rattle.lexical_read_float.specs.Scan.{grammar, beginsWith, exponentOf, scannedTail, scannedNumber, scannedShape, IsBounded}
-use Rattle.lexical_read_float.proofs.DigitRunLaws.{digitsFrom, endFrom}
+use Rattle.lexical_read_float.specs.Digits.{digitsFrom, endFrom}
 use Rattle.lexical_read_float.proofs.KeptLaws.{keep-append}
 
 -- ---- places

@@ -9,6 +9,7 @@ use borrow.Author.Tests.{lt-ltb, le-ltb}
 use lib.Arith.{le→nltb}
 use lib.Dec.{T}
 use lib.ListN.{length}
+use lib.Pow.{pow-mono}
 use lib.Ieee.{Float, Format, hid, ones, top, nanBits}
 use lib.Ieee.Bits.{nanBits-above}
 use Rattle.lexical_util.specs.Answer.{Answer, done, refused, andThen}
@@ -36,6 +37,7 @@ use Rattle.lexical_read_float.proofs.KeptLaws.{digits-full}
 
 -- ---- the numbers of a format that passed
 pub record Small (F : NumberFormat) (row : Pair) : Type 0 where
+  pub small-radix : F .«mantissa_radix» ≤ 32
   pub digit-bits : row .b ≤ 5
   pub base-bits : row .c ≤ 5
   pub some-power : 1 ≤ F .«exponent_radix»
@@ -52,6 +54,7 @@ small F o row e =
     let p = r .pair in
     let w = radix-bounds (F .«exponent_radix») (r .power) in
     record {
+      small-radix = rw (r .radix-is) (pow-mono (p .few-bits));
       digit-bits = p .few-bits;
       base-bits = le-trans (divisor-le _ (row .c) (row .b) (p .whole) (p .some-bits)) (p .few-bits);
       some-power = omega arith;

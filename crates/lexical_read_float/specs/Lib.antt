@@ -1,4 +1,5 @@
 pub mod Kept
+pub mod Digits
 pub mod Scan
 pub mod Rounding
 pub mod Bits

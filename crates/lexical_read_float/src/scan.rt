@@ -125,7 +125,7 @@ pub(crate) fn scan(
     point: u8,
     mark: u8,
 ) -> Scanned
-    requires { ⌜ (length (now text) ≤ 4096) × (b ≤ 5) × (1 ≤ «exponent_radix») × («exponent_radix» ≤ 32) ⌝ }
+    requires { ⌜ (length (now text) ≤ 4096) × (radix ≤ 32) × (b ≤ 5) × (1 ≤ «exponent_radix») × («exponent_radix» ≤ 32) ⌝ }
     ensures { λ r. ⌜ r ≡ scannedShape (now (text .entry)) b «exponent_radix» (parse (grammar radix «exponent_radix» point mark) (now (text .entry))) ⌝ }
     ensures bounded { λ r. ⌜ IsBounded r ⌝ }
 {

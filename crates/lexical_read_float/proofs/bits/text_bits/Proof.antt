@@ -4,8 +4,8 @@ use borrow.Author.Needs.{needs}
 use Rattle.lexical_float.specs.Encoding.{formatOf}
 use Rattle.lexical_read_float.proofs.TextLaws.{Small, small, IsNumberOf, text-long, text-wrong, text-found}
 use Rattle.lexical_read_float.specs.Scan.{IsBounded}
-use Rattle.lexical_read_float.proofs.bits.text_bits.Tie as tie
 use Rattle.lexical_read_float.proofs.bits.text_bits.Statement.{statement}
+use Rattle.lexical_read_float.proofs.bits.text_bits.Tie as tie
 
 passed : (c : tie.Start) → Small (c .args .format) (c .args .row)
 passed c = small (c .args .format) (c .args .options) (c .args .row) (c .pre)
@@ -21,7 +21,7 @@ returns : tie.Need-returns
 returns c = let a = c .before .before .args in (text-long (formatOf (a .width)) (a .format) (a .options) (a .row) (a .text .now) (c .if1 .taken), tt)
 
 scan-requires : tie.Need-scan-requires
-scan-requires c κs = let n = passed (c .before .before) in (c .if1 .left, n .digit-bits, n .some-power, n .small-power)
+scan-requires c κs = let n = passed (c .before .before) in (c .if1 .left, n .small-radix, n .digit-bits, n .some-power, n .small-power)
 
 enum-known-number : tie.Need-enum-known-number
 enum-known-number c = search needs

@@ -1,93 +1,56 @@
--- `lexical_read_float::digits::mantissa_digits` meets its contract: at each place the digits still to come, kept behind those kept so far, make the whole. Assumes nothing.
-use Prim.Native.Nat.{_-_, _*_, _≤_}
-use mathlib.Core.List.{[]}
-use mathlib.Core.Path.{_≡_, refl, ap}
+-- `lexical_read_float::digits::mantissa_digits` meets its contract: digits go into the bits until these are full, and the others are counted and tested for 0. Assumes nothing.
+use Prim.Native.Nat.{_+_, _-_, _*_, _≤_}
 use native.Mathlib.Omega.{arith}
 use borrow.Author.Needs.{needs}
-use lib.ListN.{length}
-use Rattle.lexical_read_float.proofs.DigitRunLaws.{no-digit, digit-below, digit-above, digitsFrom, from-more, from-stop, from-end, endFrom, end-here, end-on}
-use Rattle.lexical_read_float.specs.declared.kept.Kept.{Kept}
-use Rattle.lexical_read_float.proofs.KeepLaws.{below-grows, kept-done, kept-on}
-use Rattle.lexical_read_float.specs.Kept.{keepDigits}
+use Rattle.lexical_read_float.proofs.KeepLaws.{stops, joined, joined-below}
 use Rattle.lexical_read_float.proofs.digits.mantissa_digits.Tie as tie
 use Rattle.lexical_read_float.proofs.digits.mantissa_digits.Statement.{statement}
 
-abbrev Inv-loop : tie.InvT-loop
-Inv-loop text from radix b kept₀ i₀ kept i =
-    (i ≤ length text) × (kept .below ≤ 5 * i) × (endFrom radix text i ≡ endFrom radix text from) × (keepDigits b kept (digitsFrom radix text i) ≡ keepDigits b kept₀ (digitsFrom radix text from))
+few : (c : tie.After-further-digits)
+    → (let a = c .before .before .before .args in
+    a .start .below + a .b * (c .further-digits .result .end - c .before .leading-digits .result .end) ≤ 5 * c .further-digits .result .end)
+few c =
+    let s = c .before .before .before in
+    joined-below _ _ _ _ (s .args .start) _ _ (c .before .leading-digits .ensures) _ (c .further-digits .ensures .0) (s .pre .3) (s .pre .4)
 
-abbrev μ-loop : tie.MeasureT-loop
-μ-loop text from radix b kept₀ i₀ kept i = length text - i
+leading-digits-requires : tie.Need-leading-digits-requires
+leading-digits-requires c κs = search needs
 
-abbrev Answer : (c : tie.At-loop Inv-loop μ-loop) → Type 0
-Answer c =
-    let a = c .before .before .args in
-    (c .loop .i ≡ endFrom (a .radix) (a .text .now) (a .from)) × (c .loop .kept ≡ keepDigits (a .b) (a .start) (digitsFrom (a .radix) (a .text .now) (a .from)))
-    × (c .loop .kept .below ≤ 5 * c .loop .i) × (c .loop .i ≤ length (a .text .now))
+further-digits-requires : tie.Need-further-digits-requires
+further-digits-requires c κs = search needs
 
--- no digit stands at the loop's place
-stopped : (c : tie.At-loop Inv-loop μ-loop) → digitsFrom (c .before .before .args .radix) (c .before .before .args .text .now) (c .loop .i) ≡ [] → Answer c
-stopped c e = (end-here _ _ _ _ (c .loop .inv .2) e, kept-done _ _ _ _ (c .loop .inv .3) e, c .loop .inv .1, c .loop .inv .0)
+sub-count : tie.Need-sub-count
+sub-count c = search needs
 
-loop-holds : tie.Need-loop-holds Inv-loop μ-loop
-loop-holds c = (omega arith, omega arith, refl, refl)
+cast-count : tie.Need-cast-count
+cast-count c = search needs
 
-shared-slice-read-digit-value : tie.Need-shared-slice-read-digit-value Inv-loop μ-loop
-shared-slice-read-digit-value c = search needs
+mul-t11 : tie.Need-mul-t11
+mul-t11 c = omega (arith, few (c .before))
 
-digit-value-requires : tie.Need-digit-value-requires Inv-loop μ-loop
-digit-value-requires c κs = search needs
+add-t12 : tie.Need-add-t12
+add-t12 c = omega (arith, few (c .before .before))
 
-enum-known-digit : tie.Need-enum-known-digit Inv-loop μ-loop
-enum-known-digit c = search needs
+both-requires : tie.Need-both-requires
+both-requires c κs = search needs
 
-enum-told : tie.Need-enum-told Inv-loop μ-loop
-enum-told c = search needs
-
-returns : tie.Need-returns Inv-loop μ-loop
-returns c = let v = c .before .before in stopped (v .before .before .before) (from-stop _ _ _ (v .before .before .loop-test .taken) (no-digit _ _ _ (v .digit-value .ensures) (c .enum-told .given .1)))
-
-cast-if1 : tie.Need-cast-if1 Inv-loop μ-loop
-cast-if1 c = search needs
-
-returns-2 : tie.Need-returns-2 Inv-loop μ-loop
-returns-2 c = let v = c .before .before .before .before in stopped (v .before .before .before) (from-stop _ _ _ (v .before .before .loop-test .taken) (digit-above _ _ _ (v .digit-value .ensures) _ (c .before .before .digit .given .1) (c .if1 .taken)))
-
-keep-digit-requires : tie.Need-keep-digit-requires Inv-loop μ-loop
-keep-digit-requires c κs = search needs
-
-add-i : tie.Need-add-i Inv-loop μ-loop
-add-i c = search needs
-
-loop-less : tie.Need-loop-less Inv-loop μ-loop
-loop-less c = search needs
-
-loop-again : tie.Need-loop-again Inv-loop μ-loop
-loop-again c =
-    let v = c .before .before .before .before .before in
-    let at = v .before .before .before in
-    let d = from-more _ _ (at .loop .i) _ (v .before .before .loop-test .taken) (digit-below _ _ _ (v .digit-value .ensures) _ (c .before .before .before .digit .given .1) (c .before .if1 .left)) in
-    (omega arith, omega (arith, below-grows (at .before .before .args .b) (at .loop .kept) (c .before .before .before .digit .given .0 .0), ap (λ (k : Kept). k .below) (c .keep-digit .ensures)), end-on _ _ _ _ (at .loop .inv .2) _ d, kept-on _ _ _ _ (at .loop .inv .3) _ _ _ d (c .keep-digit .ensures))
-
-returns-3 : tie.Need-returns-3 Inv-loop μ-loop
-returns-3 c = stopped (c .before) (from-end _ _ _ (c .loop-test .left))
+returns : tie.Need-returns
+returns c =
+    let f = c .before .before .before in
+    let l = f .before in
+    let a = l .before .before .args in
+    let filled = l .leading-digits .ensures in
+    (stops _ _ _ _ (a .start) _ _ filled _ (f .further-digits .ensures .0), joined _ _ _ _ (a .start) _ _ filled _ (f .further-digits .ensures .0) _ _ (c .both .ensures) (f .further-digits .ensures .1), few f, f .further-digits .ensures .2)
 
 pub mantissa-digits-spec : {M : Type 1} → statement M
 mantissa-digits-spec =
     tie.close
     (tie.spec
-    Inv-loop
-    μ-loop
-    loop-holds
-    shared-slice-read-digit-value
-    digit-value-requires
-    enum-known-digit
-    enum-told
-    returns
-    cast-if1
-    returns-2
-    keep-digit-requires
-    add-i
-    loop-less
-    loop-again
-    returns-3)
+    leading-digits-requires
+    further-digits-requires
+    sub-count
+    cast-count
+    mul-t11
+    add-t12
+    both-requires
+    returns)

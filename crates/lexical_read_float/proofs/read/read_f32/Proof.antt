@@ -5,8 +5,8 @@ use native.Mathlib.Omega.{arith}
 use borrow.Author.Needs.{needs}
 use lib.Ieee.{binary32}
 use Rattle.lexical_round.specs.Pattern.{infinity}
-use Rattle.lexical_read_float.specs.Bits.{AreFinite}
 use Rattle.lexical_read_float.proofs.TextLaws.{said, no-nan}
+use Rattle.lexical_read_float.specs.Bits.{AreFinite}
 use Rattle.lexical_read_float.proofs.read.read_f32.Tie as tie
 use Rattle.lexical_read_float.proofs.read.read_f32.Statement.{statement}
 

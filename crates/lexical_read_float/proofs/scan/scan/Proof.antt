@@ -5,11 +5,11 @@ use native.Mathlib.Omega.{arith}
 use borrow.Author.Needs.{needs}
 use lib.ListN.{length}
 use Rattle.lexical_reading.specs.Shape.{Grammar}
-use Rattle.lexical_read_float.proofs.ScanLaws.{begins-inside, text-empty, text-plain, text-point, number-bounded}
 use Rattle.lexical_read_float.specs.Scan.{grammar}
-use Rattle.lexical_read_float.proofs.DigitRunLaws.{digitsFrom}
-use Rattle.lexical_read_float.specs.declared.kept.Kept.{Kept}
+use Rattle.lexical_read_float.specs.Digits.{digitsFrom}
 use Rattle.lexical_read_float.specs.Kept.{keepDigits}
+use Rattle.lexical_read_float.proofs.ScanLaws.{begins-inside, text-empty, text-plain, text-point, number-bounded}
+use Rattle.lexical_read_float.specs.declared.kept.Kept.{Kept}
 use Rattle.lexical_read_float.proofs.scan.scan.Statement.{statement}
 use Rattle.lexical_read_float.proofs.scan.scan.Tie as tie
 
@@ -36,7 +36,7 @@ mantissa-digits-requires-2 : tie.Need-mantissa-digits-requires-2
 mantissa-digits-requires-2 c κs =
     let m = c .before .before .before .before in
     let h = inside c in
-    (omega arith, omega arith, omega arith, omega (arith, m .mantissa-digits .ensures .2))
+    (omega arith, omega arith, omega arith, omega arith, omega (arith, m .mantissa-digits .ensures .2))
 
 scan-tail-requires : tie.Need-scan-tail-requires
 scan-tail-requires c κs = search needs

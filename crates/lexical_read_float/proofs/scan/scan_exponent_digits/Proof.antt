@@ -3,8 +3,8 @@ use mathlib.Core.Path.{sym, _∙_}
 use native.Mathlib.Omega.{arith}
 use borrow.Author.Needs.{needs}
 use Rattle.lexical_read_float.proofs.ScanLaws.{digits-none, digits-more, digits-all}
-use Rattle.lexical_read_float.proofs.scan.scan_exponent_digits.Tie as tie
 use Rattle.lexical_read_float.proofs.scan.scan_exponent_digits.Statement.{statement}
+use Rattle.lexical_read_float.proofs.scan.scan_exponent_digits.Tie as tie
 
 exponent-digits-requires : tie.Need-exponent-digits-requires
 exponent-digits-requires c κs = search needs
