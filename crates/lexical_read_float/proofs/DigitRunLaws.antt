@@ -1,36 +1,50 @@
 -- The digits in a text from a place on, one byte at a time, and a sum of digits that saturates. Assumes nothing.
-use Prim.Native.Nat.{ℕ, suc, _+_, _*_, _≤_, _<_, min}
+use Prim.Native.Nat.{ℕ, suc, _+_, _-_, _*_, _%_, _≤_, _<_, min}
 use mathlib.Core.Path.{_≡_, refl, sym, ap, _∙_, subst}
 use mathlib.Core.Bool.{Bool, true, false, _&&_}
 use mathlib.Core.List.{List, [], _∷_}
 use mathlib.Core.Option.{Option, none, some}
-use native.Mathlib.Nat.{le-trans, mul-one, mul-le-mul-left, mul-le-mul-right}
+use native.Mathlib.Nat.{le-trans, lt-of-not-le, mul-one, mul-le-mul-left, mul-le-mul-right}
 use native.Mathlib.Numerals.{add-one}
+use native.Mathlib.Decide.{decLe}
 use native.Mathlib.Omega.{arith}
 use borrow.Author.Tests.{lt-ltb, le-ltb, ltb-true, ltb-false}
 use lib.Dec.{ltb, eqb}
 use lib.ListN.{length, drop, getD, drop-of-length-le}
 use lib.Seq.{drop-cons}
-use Rattle.lexical_util.specs.Digit.{digitValue, below, digitIn, readOn}
+use Rattle.lexical_util.specs.Digit.{digitValue, digitIn, readOn}
+use Rattle.lexical_util.proofs.DigitLaws.{value-figure, value-capital, value-low, value-between, value-high}
 use Rattle.lexical_reading.specs.Parse.{more, run}
-use Rattle.lexical_read_float.specs.Digits.{orNone, digitsFrom, endFrom, allZero}
+use Rattle.lexical_read_float.specs.Digits.{IsValue, digitsFrom, endFrom, allZero}
 
--- ---- the digit of a radix that a byte is, by its digit value or 255
-pub digit-below : (radix x d : ℕ) → radix ≤ 32 → d ≡ orNone (digitValue x) → d < radix → digitIn radix x ≡ some d
-unfolding digitIn
-digit-below radix x d r e h = go (digitValue x) e
-  where
-    go : (o : Option ℕ) → d ≡ orNone o → below radix o ≡ some d
-    go none q = absurd (omega arith)
-    go (some v) q = rw (sym q, lt-ltb d radix h)
+-- ---- the digit of a radix that a byte is, by a number that tells its digit value
+module _ (radix x d : ℕ) (small : radix ≤ 32) (is : IsValue (digitValue x) d) where
+  pub digit-below : d < radix → digitIn radix x ≡ some d
+  unfolding digitIn
+  digit-below h = rw (is .digit (omega arith), lt-ltb d radix h)
 
-pub digit-above : (radix x d : ℕ) → d ≡ orNone (digitValue x) → radix ≤ d → digitIn radix x ≡ none
-unfolding digitIn
-digit-above radix x d e h = go (digitValue x) e
-  where
-    go : (o : Option ℕ) → d ≡ orNone o → below radix o ≡ none
-    go none q = refl
-    go (some v) q = rw (sym q, le-ltb d radix h)
+  pub digit-above : radix ≤ d → digitIn radix x ≡ none
+  unfolding digitIn
+  digit-above h = elim (decLe 32 d) [
+    | yes g ↦ rw (is .no-digit g)
+    | no g ↦ rw (is .digit (lt-of-not-le g), le-ltb d radix h)
+  ]
+
+-- the number that each range of bytes gives
+pub value-to-nine : (x d : ℕ) → x ≤ 57 → d < 256 → (d + 48) % 256 ≡ x → IsValue (digitValue x) d
+value-to-nine x d h f e = record {
+  digit = λ l. value-figure x (omega arith) h ∙ ap some (let z : x - 48 ≡ d = omega arith in z);
+  no-digit = λ l. value-low x (omega arith);
+}
+
+pub value-from-a : (x d : ℕ) → 65 ≤ x → d ≡ x - 65 + 10 → IsValue (digitValue x) d
+value-from-a x d h e = record {
+  digit = λ l. value-capital x h (omega arith) ∙ ap some (let z : x - 55 ≡ d = omega arith in z);
+  no-digit = λ l. value-high x (omega arith);
+}
+
+pub value-other : (x : ℕ) → 57 < x → x < 65 → IsValue (digitValue x) 255
+value-other x h k = record { digit = λ l. absurd (omega arith); no-digit = λ l. value-between x h k }
 
 pub and-true : (a : Bool) → (a && true) ≡ a
 and-true true = refl

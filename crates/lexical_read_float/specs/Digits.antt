@@ -9,10 +9,10 @@ use lib.ListN.{length, drop}
 use Rattle.lexical_reading.specs.Parse.{run}
 use Rattle.lexical_read_float.specs.Kept.{full, keepDigits}
 
--- 255 for none, which no digit is
-abbrev pub orNone : Option ℕ → ℕ
-orNone none = 255
-orNone (some d) = d
+-- d tells a digit value: below 32 it is that, and from 32 on there is none
+pub record IsValue (v : Option ℕ) (d : ℕ) : Type 0 where
+  pub digit : d < 32 → v ≡ some d
+  pub no-digit : 32 ≤ d → v ≡ none
 
 -- the digits from place i on, and where they end
 abbrev pub digitsFrom : ℕ → List ℕ → ℕ → List ℕ

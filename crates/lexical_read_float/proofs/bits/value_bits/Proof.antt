@@ -5,8 +5,8 @@ use native.Mathlib.Omega.{arith}
 use borrow.Author.Needs.{needs}
 use Rattle.lexical_float.specs.Encoding.{formatOf}
 use Rattle.lexical_read_float.proofs.BitsLaws.{product-le, refused-ten, value-divided, value-multiplied, kept-holds}
-use Rattle.lexical_read_float.proofs.bits.value_bits.Tie as tie
 use Rattle.lexical_read_float.proofs.bits.value_bits.Statement.{statement}
+use Rattle.lexical_read_float.proofs.bits.value_bits.Tie as tie
 
 places-small : (c : tie.Start) → c .args .row .b * c .args .number .fraction ≤ 5 * 4096
 places-small c = product-le _ _ 5 4096 (c .pre .2) (c .pre .0 .few-digits)

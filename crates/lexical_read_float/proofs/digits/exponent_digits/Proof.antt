@@ -1,13 +1,13 @@
 -- `lexical_read_float::digits::exponent_digits` meets its contract: at each place the digits still to come, added to the sum so far, make the whole, cut off at 32,768. Assumes nothing.
 use Prim.Native.Nat.{_+_, _-_, _*_, _≤_, min}
-use mathlib.Core.Path.{_≡_, refl}
 use mathlib.Core.List.{[], _∷_}
+use mathlib.Core.Path.{_≡_, refl}
 use native.Mathlib.Omega.{arith}
 use borrow.Author.Needs.{needs}
 use lib.ListN.{length}
 use Rattle.lexical_util.specs.Digit.{readOn, digitsValue}
-use Rattle.lexical_read_float.specs.Digits.{digitsFrom, endFrom}
 use Rattle.lexical_read_float.proofs.DigitRunLaws.{digit-below, digit-above, from-more, from-stop, from-end, end-here, end-on, sum-done, sum-on, product-small}
+use Rattle.lexical_read_float.specs.Digits.{digitsFrom, endFrom}
 use Rattle.lexical_read_float.proofs.digits.exponent_digits.Tie as tie
 use Rattle.lexical_read_float.proofs.digits.exponent_digits.Statement.{statement}
 
@@ -32,17 +32,17 @@ product c = product-small (c .loop .magnitude) (c .before .before .args .radix) 
 loop-holds : tie.Need-loop-holds Inv-loop μ-loop
 loop-holds c = (omega arith, omega arith, refl, refl)
 
-shared-slice-read-digit-or-none : tie.Need-shared-slice-read-digit-or-none Inv-loop μ-loop
-shared-slice-read-digit-or-none c = search needs
+shared-slice-read-digit-or-more : tie.Need-shared-slice-read-digit-or-more Inv-loop μ-loop
+shared-slice-read-digit-or-more c = search needs
 
-digit-or-none-requires : tie.Need-digit-or-none-requires Inv-loop μ-loop
-digit-or-none-requires c κs = search needs
+digit-or-more-requires : tie.Need-digit-or-more-requires Inv-loop μ-loop
+digit-or-more-requires c κs = search needs
 
 cast-if1 : tie.Need-cast-if1 Inv-loop μ-loop
 cast-if1 c = search needs
 
 returns : tie.Need-returns Inv-loop μ-loop
-returns c = let d = c .before in let l = d .before .before in stopped (l .before) (from-stop _ _ _ (l .loop-test .taken) (digit-above _ _ _ (d .digit-or-none .ensures) (c .if1 .taken)))
+returns c = let d = c .before in let l = d .before .before in stopped (l .before) (from-stop _ _ _ (l .loop-test .taken) (digit-above _ _ _ (l .before .before .before .pre .2) (d .digit-or-more .ensures) (c .if1 .taken)))
 
 mul-saturated : tie.Need-mul-saturated Inv-loop μ-loop
 mul-saturated c = omega (arith, product (c .before .before .before .before))
@@ -68,8 +68,8 @@ loop-again c =
     let l = d .before .before in
     let at = l .before in
     let a = at .before .before .args in
-    let more : digitsFrom (a .radix) (a .text .now) (at .loop .i) ≡ d .digit-or-none .result ∷ digitsFrom (a .radix) (a .text .now) (at .loop .i + 1) =
-    from-more _ _ (at .loop .i) _ (l .loop-test .taken) (digit-below _ _ _ (at .before .before .pre .2) (d .digit-or-none .ensures) (c .before .if1 .left)) in
+    let more : digitsFrom (a .radix) (a .text .now) (at .loop .i) ≡ d .digit-or-more .result ∷ digitsFrom (a .radix) (a .text .now) (at .loop .i + 1) =
+    from-more _ _ (at .loop .i) _ (l .loop-test .taken) (digit-below _ _ _ (at .before .before .pre .2) (d .digit-or-more .ensures) (c .before .if1 .left)) in
     (omega arith, omega (arith, c .saturated .ensures), end-on _ _ _ _ (at .loop .inv .2) _ more, sum-on _ _ _ _ (at .loop .inv .3) _ _ _ (at .before .before .pre .1) more (c .saturated .ensures))
 
 returns-2 : tie.Need-returns-2 Inv-loop μ-loop
@@ -82,8 +82,8 @@ exponent-digits-spec =
     Inv-loop
     μ-loop
     loop-holds
-    shared-slice-read-digit-or-none
-    digit-or-none-requires
+    shared-slice-read-digit-or-more
+    digit-or-more-requires
     cast-if1
     returns
     mul-saturated

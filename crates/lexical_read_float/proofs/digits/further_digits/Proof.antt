@@ -8,8 +8,8 @@ use borrow.Author.Needs.{needs}
 use lib.ListN.{length}
 use Rattle.lexical_read_float.specs.Digits.{allZero, digitsFrom, endFrom}
 use Rattle.lexical_read_float.proofs.DigitRunLaws.{digit-below, digit-above, from-more, from-stop, from-end, end-here, end-on, zeros-done, zeros-on}
-use Rattle.lexical_read_float.proofs.digits.further_digits.Tie as tie
 use Rattle.lexical_read_float.proofs.digits.further_digits.Statement.{statement}
+use Rattle.lexical_read_float.proofs.digits.further_digits.Tie as tie
 
 abbrev Inv-loop : tie.InvT-loop
 Inv-loop text from radix clear₀ i₀ clear i =
@@ -27,17 +27,17 @@ stopped c e = let v = c .loop .inv in (end-here _ _ _ _ (v .1) e, zeros-done (c 
 loop-holds : tie.Need-loop-holds Inv-loop μ-loop
 loop-holds c = (omega arith, refl, refl)
 
-shared-slice-read-digit-or-none : tie.Need-shared-slice-read-digit-or-none Inv-loop μ-loop
-shared-slice-read-digit-or-none c = search needs
+shared-slice-read-digit-or-more : tie.Need-shared-slice-read-digit-or-more Inv-loop μ-loop
+shared-slice-read-digit-or-more c = search needs
 
-digit-or-none-requires : tie.Need-digit-or-none-requires Inv-loop μ-loop
-digit-or-none-requires c κs = search needs
+digit-or-more-requires : tie.Need-digit-or-more-requires Inv-loop μ-loop
+digit-or-more-requires c κs = search needs
 
 cast-if1 : tie.Need-cast-if1 Inv-loop μ-loop
 cast-if1 c = search needs
 
 returns : tie.Need-returns Inv-loop μ-loop
-returns c = let d = c .before in let l = d .before .before in stopped (l .before) (from-stop _ _ _ (l .loop-test .taken) (digit-above _ _ _ (d .digit-or-none .ensures) (c .if1 .taken)))
+returns c = let d = c .before in let l = d .before .before in stopped (l .before) (from-stop _ _ _ (l .loop-test .taken) (digit-above _ _ _ (l .before .before .before .pre .1) (d .digit-or-more .ensures) (c .if1 .taken)))
 
 both-requires : tie.Need-both-requires Inv-loop μ-loop
 both-requires c κs = search needs
@@ -54,8 +54,8 @@ loop-again c =
     let l = d .before .before in
     let at = l .before in
     let a = at .before .before .args in
-    let more : digitsFrom (a .radix) (a .text .now) (at .loop .i) ≡ d .digit-or-none .result ∷ digitsFrom (a .radix) (a .text .now) (at .loop .i + 1) =
-    from-more _ _ (at .loop .i) _ (l .loop-test .taken) (digit-below _ _ _ (at .before .before .pre .1) (d .digit-or-none .ensures) (c .before .if1 .left)) in
+    let more : digitsFrom (a .radix) (a .text .now) (at .loop .i) ≡ d .digit-or-more .result ∷ digitsFrom (a .radix) (a .text .now) (at .loop .i + 1) =
+    from-more _ _ (at .loop .i) _ (l .loop-test .taken) (digit-below _ _ _ (at .before .before .pre .1) (d .digit-or-more .ensures) (c .before .if1 .left)) in
     (omega arith, end-on _ _ _ _ (at .loop .inv .1) _ more, ap (λ (z : Bool). z && allZero (digitsFrom (a .radix) (a .text .now) (at .loop .i + 1))) (c .both .ensures) ∙ zeros-on (at .loop .clear) _ _ _ _ (at .loop .inv .2) more)
 
 returns-2 : tie.Need-returns-2 Inv-loop μ-loop
@@ -68,8 +68,8 @@ further-digits-spec =
     Inv-loop
     μ-loop
     loop-holds
-    shared-slice-read-digit-or-none
-    digit-or-none-requires
+    shared-slice-read-digit-or-more
+    digit-or-more-requires
     cast-if1
     returns
     both-requires

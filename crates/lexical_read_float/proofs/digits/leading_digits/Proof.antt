@@ -1,16 +1,16 @@
 -- `lexical_read_float::digits::leading_digits` meets its contract: at each place the digits still to come make the same of the bits so far as all make of those at the start. Assumes nothing.
 use Prim.Native.Nat.{ℕ, _+_, _-_, _≤_, _<_}
 use mathlib.Core.Path.{_≡_, refl, ap, _∙_}
-use mathlib.Core.Bool.{Bool}
 use mathlib.Core.List.{[], _∷_}
+use mathlib.Core.Bool.{Bool}
 use native.Mathlib.Nat.{not-le-of-lt}
 use native.Mathlib.Omega.{arith}
 use borrow.Author.Needs.{needs}
 use lib.ListN.{length}
-use Rattle.lexical_read_float.proofs.DigitRunLaws.{digit-below, digit-above, from-more, from-stop, from-end, end-on}
-use Rattle.lexical_read_float.specs.Digits.{digitsFrom, endFrom, Filled}
-use Rattle.lexical_read_float.proofs.KeepLaws.{shift-small, shift-is, kept-on}
 use Rattle.lexical_read_float.specs.Kept.{full, keepDigits}
+use Rattle.lexical_read_float.proofs.DigitRunLaws.{digit-below, digit-above, from-more, from-stop, from-end, end-on}
+use Rattle.lexical_read_float.proofs.KeepLaws.{shift-small, shift-is, kept-on}
+use Rattle.lexical_read_float.specs.Digits.{digitsFrom, endFrom, Filled}
 use Rattle.lexical_read_float.proofs.digits.leading_digits.Statement.{statement}
 use Rattle.lexical_read_float.proofs.digits.leading_digits.Tie as tie
 
@@ -34,17 +34,17 @@ loop-holds c = (omega arith, omega arith, refl, λ below clear. refl)
 returns : tie.Need-returns Inv-loop μ-loop
 returns c = stopped (c .before .before) (λ l. absurd (not-le-of-lt l (c .if1 .taken)))
 
-shared-slice-read-digit-or-none : tie.Need-shared-slice-read-digit-or-none Inv-loop μ-loop
-shared-slice-read-digit-or-none c = search needs
+shared-slice-read-digit-or-more : tie.Need-shared-slice-read-digit-or-more Inv-loop μ-loop
+shared-slice-read-digit-or-more c = search needs
 
-digit-or-none-requires : tie.Need-digit-or-none-requires Inv-loop μ-loop
-digit-or-none-requires c κs = search needs
+digit-or-more-requires : tie.Need-digit-or-more-requires Inv-loop μ-loop
+digit-or-more-requires c κs = search needs
 
 cast-if2 : tie.Need-cast-if2 Inv-loop μ-loop
 cast-if2 c = search needs
 
 returns-2 : tie.Need-returns-2 Inv-loop μ-loop
-returns-2 c = let d = c .before in let l = d .before .before .before in stopped (l .before) (λ h. from-stop _ _ _ (l .loop-test .taken) (digit-above _ _ _ (d .digit-or-none .ensures) (c .if2 .taken)))
+returns-2 c = let d = c .before in let l = d .before .before .before in stopped (l .before) (λ h. from-stop _ _ _ (l .loop-test .taken) (digit-above _ _ _ (l .before .before .before .pre .1) (d .digit-or-more .ensures) (c .if2 .taken)))
 
 shl-bits : tie.Need-shl-bits Inv-loop μ-loop
 shl-bits c = search needs
@@ -67,12 +67,12 @@ loop-again c =
     let f = d .before .before in
     let at = f .before .before in
     let a = at .before .before .args in
-    let more : digitsFrom (a .radix) (a .text .now) (at .loop .i) ≡ d .digit-or-none .result ∷ digitsFrom (a .radix) (a .text .now) (at .loop .i + 1) =
-    from-more _ _ (at .loop .i) _ (f .before .loop-test .taken) (digit-below _ _ _ (at .before .before .pre .1) (d .digit-or-none .ensures) (c .if2 .left)) in (
+    let more : digitsFrom (a .radix) (a .text .now) (at .loop .i) ≡ d .digit-or-more .result ∷ digitsFrom (a .radix) (a .text .now) (at .loop .i + 1) =
+    from-more _ _ (at .loop .i) _ (f .before .loop-test .taken) (digit-below _ _ _ (at .before .before .pre .1) (d .digit-or-more .ensures) (c .if2 .left)) in (
       omega arith,
       omega arith,
       end-on _ _ _ _ (at .loop .inv .2) _ more,
-      λ below clear. kept-on _ (at .loop .bits) below _ _ clear _ _ (f .if1 .left) (ap (λ (x : ℕ). x + d .digit-or-none .result) (shift-is (at .loop .bits) (a .b) (f .if1 .left) (at .before .before .pre .2))) more ∙ at .loop .inv .3 below clear,
+      λ below clear. kept-on _ (at .loop .bits) below _ _ clear _ _ (f .if1 .left) (ap (λ (x : ℕ). x + d .digit-or-more .result) (shift-is (at .loop .bits) (a .b) (f .if1 .left) (at .before .before .pre .2))) more ∙ at .loop .inv .3 below clear,
     )
 
 returns-3 : tie.Need-returns-3 Inv-loop μ-loop
@@ -86,8 +86,8 @@ leading-digits-spec =
     μ-loop
     loop-holds
     returns
-    shared-slice-read-digit-or-none
-    digit-or-none-requires
+    shared-slice-read-digit-or-more
+    digit-or-more-requires
     cast-if2
     returns-2
     shl-bits

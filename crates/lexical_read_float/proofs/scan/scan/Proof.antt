@@ -6,12 +6,12 @@ use borrow.Author.Needs.{needs}
 use lib.ListN.{length}
 use Rattle.lexical_reading.specs.Shape.{Grammar}
 use Rattle.lexical_read_float.specs.Scan.{grammar}
+use Rattle.lexical_read_float.specs.declared.kept.Kept.{Kept}
 use Rattle.lexical_read_float.specs.Digits.{digitsFrom}
 use Rattle.lexical_read_float.specs.Kept.{keepDigits}
 use Rattle.lexical_read_float.proofs.ScanLaws.{begins-inside, text-empty, text-plain, text-point, number-bounded}
-use Rattle.lexical_read_float.specs.declared.kept.Kept.{Kept}
-use Rattle.lexical_read_float.proofs.scan.scan.Statement.{statement}
 use Rattle.lexical_read_float.proofs.scan.scan.Tie as tie
+use Rattle.lexical_read_float.proofs.scan.scan.Statement.{statement}
 
 abbrev grammarIn : tie.Start → Grammar
 grammarIn c = grammar (c .args .radix) (c .args .exponent-radix) (c .args .point) (c .args .mark)

@@ -5,8 +5,8 @@ use borrow.Author.Needs.{needs}
 use Rattle.lexical_reading.specs.Shape.{unsigned, plus, minus}
 use Rattle.lexical_read_float.proofs.ScanLaws.{sign-missing, sign-plus, sign-minus, sign-none}
 use Rattle.lexical_read_float.specs.Scan.{scannedTail}
-use Rattle.lexical_read_float.proofs.scan.scan_exponent.Tie as tie
 use Rattle.lexical_read_float.proofs.scan.scan_exponent.Statement.{statement}
+use Rattle.lexical_read_float.proofs.scan.scan_exponent.Tie as tie
 
 returns : tie.Need-returns
 returns c = sign-missing _ _ _ (c .if1 .taken)

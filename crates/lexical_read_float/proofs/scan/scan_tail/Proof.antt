@@ -2,10 +2,10 @@
 use mathlib.Core.Path.{sym, ap, _∙_}
 use native.Mathlib.Omega.{arith}
 use borrow.Author.Needs.{needs}
-use Rattle.lexical_read_float.specs.Scan.{grammar, scannedTail}
 use Rattle.lexical_read_float.proofs.ScanLaws.{tail-absent, tail-wrong, tail-marked}
-use Rattle.lexical_read_float.proofs.scan.scan_tail.Tie as tie
+use Rattle.lexical_read_float.specs.Scan.{grammar, scannedTail}
 use Rattle.lexical_read_float.proofs.scan.scan_tail.Statement.{statement}
+use Rattle.lexical_read_float.proofs.scan.scan_tail.Tie as tie
 
 returns : tie.Need-returns
 returns c = λ r p. tail-absent _ (grammar r _ p _) _ (c .if1 .taken)

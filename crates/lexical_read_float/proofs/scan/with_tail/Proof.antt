@@ -2,8 +2,8 @@
 use mathlib.Core.Path.{sym, ap}
 use borrow.Author.Needs.{needs}
 use Rattle.lexical_read_float.specs.Scan.{scannedNumber}
-use Rattle.lexical_read_float.proofs.scan.with_tail.Tie as tie
 use Rattle.lexical_read_float.proofs.scan.with_tail.Statement.{statement}
+use Rattle.lexical_read_float.proofs.scan.with_tail.Tie as tie
 
 enum-known-tail : tie.Need-enum-known-tail
 enum-known-tail c = search needs
