@@ -115,9 +115,9 @@ module _ (t : List ℕ) (radix from : ℕ) where
 
 -- ---- behind the mantissa
 module _ (t : List ℕ) (G : Grammar) (from : ℕ) where
-  pub tail-absent : from ≡ length t → tail.Found (record { negative = false; magnitude = 0; place = from }) ≡ scannedTail t (G .exponentRadix) (parseTail G (drop from t))
+  pub tail-absent : from ≡ length t → tail.Found (record { negative = false; magnitude = 0; place = length t }) ≡ scannedTail t (G .exponentRadix) (parseTail G (drop from t))
   unfolding parseTail exponentPlace
-  tail-absent e = rw (at-end t from e) (ap (λ (p : ℕ). tail.Found (record { negative = false; magnitude = 0; place = p })) e)
+  tail-absent e = rw (at-end t from e)
 
   pub tail-wrong : from < length t → (getD t from 0 ≡ G .mark → ⊥) → tail.Wrong from ≡ scannedTail t (G .exponentRadix) (parseTail G (drop from t))
   unfolding parseTail

@@ -35,11 +35,12 @@ pub(crate) enum Scanned {
     Wrong(usize),
 }
 
-// One or more exponent digits from a place on, and nothing behind them.
-fn scan_exponent_digits(text: &[u8], from: usize, radix: u32, negative: bool) -> ScannedTail
-    requires { ⌜ (from ≤ length (now text)) × (1 ≤ radix) × (radix ≤ 32) ⌝ }
-    ensures { λ r. ⌜ ((s : Sign) → isNegative (exponent s []) ≡ negative → r ≡ scannedTail (now (text .entry)) radix (exponentDigits radix s (drop from (now (text .entry))))) ⌝ }
+// One or more exponent digits behind a place, and nothing behind them.
+fn scan_exponent_digits(text: &[u8], before: usize, radix: u32, negative: bool) -> ScannedTail
+    requires { ⌜ (before < length (now text)) × (1 ≤ radix) × (radix ≤ 32) ⌝ }
+    ensures { λ r. ⌜ ((s : Sign) → isNegative (exponent s []) ≡ negative → r ≡ scannedTail (now (text .entry)) radix (exponentDigits radix s (drop (before + 1) (now (text .entry))))) ⌝ }
 {
+    let from = before + 1;
     let digits = exponent_digits(text, from, radix);
     let end = digits.end;
     if end == from {
@@ -55,22 +56,23 @@ fn scan_exponent_digits(text: &[u8], from: usize, radix: u32, negative: bool) ->
     })
 }
 
-// Behind the mark: a "+" or "-" or neither, then the digits.
-fn scan_exponent(text: &[u8], from: usize, radix: u32) -> ScannedTail
-    requires { ⌜ (from ≤ length (now text)) × (1 ≤ radix) × (radix ≤ 32) ⌝ }
-    ensures { λ r. ⌜ r ≡ scannedTail (now (text .entry)) radix (signedExponent radix (drop from (now (text .entry)))) ⌝ }
+// Behind the mark at a place: a "+" or "-" or neither, then the digits.
+fn scan_exponent(text: &[u8], at: usize, radix: u32) -> ScannedTail
+    requires { ⌜ (at < length (now text)) × (1 ≤ radix) × (radix ≤ 32) ⌝ }
+    ensures { λ r. ⌜ r ≡ scannedTail (now (text .entry)) radix (signedExponent radix (drop (at + 1) (now (text .entry)))) ⌝ }
 {
-    if from == text.len() {
-        return ScannedTail::Wrong(from);
+    let next = at + 1;
+    if next == text.len() {
+        return ScannedTail::Wrong(next);
     }
-    let byte = text[from];
+    let byte = text[next];
     if byte == b'+' {
-        return scan_exponent_digits(text, from + 1, radix, false);
+        return scan_exponent_digits(text, next, radix, false);
     }
     if byte == b'-' {
-        return scan_exponent_digits(text, from + 1, radix, true);
+        return scan_exponent_digits(text, next, radix, true);
     }
-    scan_exponent_digits(text, from, radix, false)
+    scan_exponent_digits(text, at, radix, false)
 }
 
 // Behind the mantissa: nothing, or the mark and an exponent.
@@ -82,13 +84,13 @@ fn scan_tail(text: &[u8], from: usize, radix: u32, mark: u8) -> ScannedTail
         return ScannedTail::Found(Exponent {
             negative: false,
             magnitude: 0,
-            place: from,
+            place: text.len(),
         });
     }
     if text[from] != mark {
         return ScannedTail::Wrong(from);
     }
-    scan_exponent(text, from + 1, radix)
+    scan_exponent(text, from, radix)
 }
 
 // The mantissa's digits with what stands behind them.

@@ -1,9 +1,9 @@
 -- `lexical_read_float::bits::read_bits` meets its contract: the check of the format, then the text. Assumes nothing.
 use mathlib.Core.Path.{_≡_, sym, ap, _∙_}
 use borrow.Author.Needs.{needs}
+use Rattle.lexical_float.specs.Encoding.{formatOf}
 use Rattle.lexical_util.specs.Answer.{done}
 use Rattle.lexical_format.specs.Format.{readingFormat, ofReadingCheck}
-use Rattle.lexical_float.specs.Encoding.{formatOf}
 use Rattle.lexical_read_float.proofs.TextLaws.{read-passed, read-refused}
 use Rattle.lexical_read_float.proofs.bits.read_bits.Tie as tie
 use Rattle.lexical_read_float.proofs.bits.read_bits.Statement.{statement}

@@ -2,8 +2,8 @@
 use mathlib.Core.Path.{sym, ap, subst}
 use borrow.Author.Needs.{needs}
 use Rattle.lexical_read_float.specs.Rounding.{ofRounded, IsFinite}
-use Rattle.lexical_read_float.proofs.bits.rounded_bits.Tie as tie
 use Rattle.lexical_read_float.proofs.bits.rounded_bits.Statement.{statement}
+use Rattle.lexical_read_float.proofs.bits.rounded_bits.Tie as tie
 
 enum-known-rounded : tie.Need-enum-known-rounded
 enum-known-rounded c = search needs

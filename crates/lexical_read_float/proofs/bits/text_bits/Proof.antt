@@ -2,10 +2,10 @@
 use mathlib.Core.Path.{_∙_, subst}
 use borrow.Author.Needs.{needs}
 use Rattle.lexical_float.specs.Encoding.{formatOf}
-use Rattle.lexical_read_float.proofs.TextLaws.{Small, small, IsNumberOf, text-long, text-wrong, text-found}
 use Rattle.lexical_read_float.specs.Scan.{IsBounded}
-use Rattle.lexical_read_float.proofs.bits.text_bits.Statement.{statement}
+use Rattle.lexical_read_float.proofs.TextLaws.{Small, small, IsNumberOf, text-long, text-wrong, text-found}
 use Rattle.lexical_read_float.proofs.bits.text_bits.Tie as tie
+use Rattle.lexical_read_float.proofs.bits.text_bits.Statement.{statement}
 
 passed : (c : tie.Start) → Small (c .args .format) (c .args .row)
 passed c = small (c .args .format) (c .args .options) (c .args .row) (c .pre)

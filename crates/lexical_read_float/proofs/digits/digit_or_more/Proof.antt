@@ -3,8 +3,8 @@ use mathlib.Core.Path.{refl}
 use native.Mathlib.Omega.{arith}
 use borrow.Author.Needs.{needs}
 use Rattle.lexical_read_float.proofs.DigitRunLaws.{value-to-nine, value-from-a, value-other}
-use Rattle.lexical_read_float.proofs.digits.digit_or_more.Tie as tie
 use Rattle.lexical_read_float.proofs.digits.digit_or_more.Statement.{statement}
+use Rattle.lexical_read_float.proofs.digits.digit_or_more.Tie as tie
 
 wrapping-sub-u8-requires : tie.Need-wrapping-sub-u8-requires
 wrapping-sub-u8-requires c κs = search needs

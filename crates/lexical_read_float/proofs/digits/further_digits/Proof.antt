@@ -1,13 +1,13 @@
 -- `lexical_read_float::digits::further_digits` meets its contract: at each place the digits so far are 0 and those still to come, or not all are. Assumes nothing.
 use Prim.Native.Nat.{_+_, _-_, _≤_}
+use mathlib.Core.List.{[], _∷_}
 use mathlib.Core.Bool.{Bool, _&&_}
 use mathlib.Core.Path.{_≡_, refl, ap, _∙_}
-use mathlib.Core.List.{[], _∷_}
 use native.Mathlib.Omega.{arith}
 use borrow.Author.Needs.{needs}
 use lib.ListN.{length}
-use Rattle.lexical_read_float.specs.Digits.{allZero, digitsFrom, endFrom}
 use Rattle.lexical_read_float.proofs.DigitRunLaws.{digit-below, digit-above, from-more, from-stop, from-end, end-here, end-on, zeros-done, zeros-on}
+use Rattle.lexical_read_float.specs.Digits.{allZero, digitsFrom, endFrom}
 use Rattle.lexical_read_float.proofs.digits.further_digits.Statement.{statement}
 use Rattle.lexical_read_float.proofs.digits.further_digits.Tie as tie
 

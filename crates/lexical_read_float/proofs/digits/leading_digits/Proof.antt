@@ -1,16 +1,16 @@
 -- `lexical_read_float::digits::leading_digits` meets its contract: at each place the digits still to come make the same of the bits so far as all make of those at the start. Assumes nothing.
 use Prim.Native.Nat.{ℕ, _+_, _-_, _≤_, _<_}
-use mathlib.Core.Path.{_≡_, refl, ap, _∙_}
 use mathlib.Core.List.{[], _∷_}
+use mathlib.Core.Path.{_≡_, refl, ap, _∙_}
 use mathlib.Core.Bool.{Bool}
-use native.Mathlib.Nat.{not-le-of-lt}
 use native.Mathlib.Omega.{arith}
+use native.Mathlib.Nat.{not-le-of-lt}
 use borrow.Author.Needs.{needs}
 use lib.ListN.{length}
-use Rattle.lexical_read_float.specs.Kept.{full, keepDigits}
 use Rattle.lexical_read_float.proofs.DigitRunLaws.{digit-below, digit-above, from-more, from-stop, from-end, end-on}
-use Rattle.lexical_read_float.proofs.KeepLaws.{shift-small, shift-is, kept-on}
 use Rattle.lexical_read_float.specs.Digits.{digitsFrom, endFrom, Filled}
+use Rattle.lexical_read_float.specs.Kept.{full, keepDigits}
+use Rattle.lexical_read_float.proofs.KeepLaws.{shift-small, shift-is, kept-on}
 use Rattle.lexical_read_float.proofs.digits.leading_digits.Statement.{statement}
 use Rattle.lexical_read_float.proofs.digits.leading_digits.Tie as tie
 

@@ -3,8 +3,8 @@ use Prim.Native.Nat.{_+_, _-_, _*_, _≤_}
 use native.Mathlib.Omega.{arith}
 use borrow.Author.Needs.{needs}
 use Rattle.lexical_read_float.proofs.KeepLaws.{stops, joined, joined-below}
-use Rattle.lexical_read_float.proofs.digits.mantissa_digits.Tie as tie
 use Rattle.lexical_read_float.proofs.digits.mantissa_digits.Statement.{statement}
+use Rattle.lexical_read_float.proofs.digits.mantissa_digits.Tie as tie
 
 few : (c : tie.After-further-digits)
     → (let a = c .before .before .before .args in

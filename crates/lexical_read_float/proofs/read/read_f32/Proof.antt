@@ -7,8 +7,8 @@ use lib.Ieee.{binary32}
 use Rattle.lexical_round.specs.Pattern.{infinity}
 use Rattle.lexical_read_float.proofs.TextLaws.{said, no-nan}
 use Rattle.lexical_read_float.specs.Bits.{AreFinite}
-use Rattle.lexical_read_float.proofs.read.read_f32.Statement.{statement}
 use Rattle.lexical_read_float.proofs.read.read_f32.Tie as tie
+use Rattle.lexical_read_float.proofs.read.read_f32.Statement.{statement}
 
 finite : (c : tie.After-bits) → c .bits .given .0 .0 < infinity binary32
 finite c = subst (AreFinite binary32) (c .bits .given .1) (c .before .before .read-bits .ensures .1)

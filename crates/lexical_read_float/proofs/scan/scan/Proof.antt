@@ -5,13 +5,13 @@ use native.Mathlib.Omega.{arith}
 use borrow.Author.Needs.{needs}
 use lib.ListN.{length}
 use Rattle.lexical_reading.specs.Shape.{Grammar}
-use Rattle.lexical_read_float.specs.Scan.{grammar}
 use Rattle.lexical_read_float.specs.declared.kept.Kept.{Kept}
+use Rattle.lexical_read_float.specs.Scan.{grammar}
+use Rattle.lexical_read_float.proofs.ScanLaws.{begins-inside, text-empty, text-plain, text-point, number-bounded}
 use Rattle.lexical_read_float.specs.Digits.{digitsFrom}
 use Rattle.lexical_read_float.specs.Kept.{keepDigits}
-use Rattle.lexical_read_float.proofs.ScanLaws.{begins-inside, text-empty, text-plain, text-point, number-bounded}
-use Rattle.lexical_read_float.proofs.scan.scan.Tie as tie
 use Rattle.lexical_read_float.proofs.scan.scan.Statement.{statement}
+use Rattle.lexical_read_float.proofs.scan.scan.Tie as tie
 
 abbrev grammarIn : tie.Start → Grammar
 grammarIn c = grammar (c .args .radix) (c .args .exponent-radix) (c .args .point) (c .args .mark)
@@ -24,7 +24,7 @@ mantissa-digits-requires : tie.Need-mantissa-digits-requires
 mantissa-digits-requires c κs = search needs
 
 returns : tie.Need-returns
-returns c = let m = c .before .before in (text-empty (m .before .before .args .text .now) (m .before .before .args .b) (grammarIn (m .before .before)) _ (m .mantissa-digits .ensures .0) (c .if1 .taken), tt)
+returns c = let m = c .before .before in (text-empty (m .before .before .args .text .now) (m .before .before .args .b) (grammarIn (m .before .before)) (m .mantissa-digits .result .end) (m .mantissa-digits .ensures .0) (omega arith), tt)
 
 stands-at-requires : tie.Need-stands-at-requires
 stands-at-requires c κs = search needs

@@ -3,14 +3,17 @@ use mathlib.Core.Path.{sym, _∙_}
 use native.Mathlib.Omega.{arith}
 use borrow.Author.Needs.{needs}
 use Rattle.lexical_read_float.proofs.ScanLaws.{digits-none, digits-more, digits-all}
-use Rattle.lexical_read_float.proofs.scan.scan_exponent_digits.Statement.{statement}
 use Rattle.lexical_read_float.proofs.scan.scan_exponent_digits.Tie as tie
+use Rattle.lexical_read_float.proofs.scan.scan_exponent_digits.Statement.{statement}
+
+add-from : tie.Need-add-from
+add-from c = search needs
 
 exponent-digits-requires : tie.Need-exponent-digits-requires
 exponent-digits-requires c κs = search needs
 
 returns : tie.Need-returns
-returns c = λ s e. digits-none _ _ s _ (c .before .before .before .pre .0) (sym (c .before .exponent-digits .ensures .0) ∙ c .if1 .taken)
+returns c = λ s e. digits-none _ _ s _ (omega arith) (sym (c .before .exponent-digits .ensures .0) ∙ c .if1 .taken)
 
 returns-2 : tie.Need-returns-2
 returns-2 c = λ s e. digits-more _ _ s _ _ (c .before .before .exponent-digits .ensures .0) (c .before .if1 .left) (c .if2 .taken)
@@ -20,4 +23,4 @@ returns-3 c = λ s e. let d = c .before .before .exponent-digits .ensures in dig
 
 pub scan-exponent-digits-spec : {M : Type 1} → statement M
 scan-exponent-digits-spec =
-    tie.close (tie.spec exponent-digits-requires returns returns-2 returns-3)
+    tie.close (tie.spec add-from exponent-digits-requires returns returns-2 returns-3)

@@ -16,9 +16,6 @@ shared-slice-read-if2 c = search needs
 returns-2 : tie.Need-returns-2
 returns-2 c = λ r p. let a = c .before .before .before .before .args in tail-wrong (a .text .now) (grammar r (a .radix) p (a .mark)) (a .from) (omega arith) (c .if2 .taken)
 
-add-scan-exponent : tie.Need-add-scan-exponent
-add-scan-exponent c = search needs
-
 scan-exponent-requires : tie.Need-scan-exponent-requires
 scan-exponent-requires c κs = search needs
 
@@ -27,11 +24,4 @@ returns-3 c = λ r p. let a = c .before .before .before .before .before .args in
 
 pub scan-tail-spec : {M : Type 1} → statement M
 scan-tail-spec =
-    tie.close
-    (tie.spec
-    returns
-    shared-slice-read-if2
-    returns-2
-    add-scan-exponent
-    scan-exponent-requires
-    returns-3)
+    tie.close (tie.spec returns shared-slice-read-if2 returns-2 scan-exponent-requires returns-3)

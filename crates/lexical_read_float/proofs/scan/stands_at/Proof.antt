@@ -2,8 +2,8 @@
 use native.Mathlib.Omega.{arith}
 use borrow.Author.Needs.{needs}
 use Rattle.lexical_read_float.proofs.ScanLaws.{begins-end, begins-byte}
-use Rattle.lexical_read_float.proofs.scan.stands_at.Tie as tie
 use Rattle.lexical_read_float.proofs.scan.stands_at.Statement.{statement}
+use Rattle.lexical_read_float.proofs.scan.stands_at.Tie as tie
 
 returns : tie.Need-returns
 returns c = begins-end _ _ _ (c .if1 .taken)
