@@ -2,7 +2,7 @@
 use Prim.Native.Nat.{ℕ, _+_, _*_, _^_, _≤_, _<_, min}
 use mathlib.Core.Path.{_≡_, sym, ap, ap₂, _∙_}
 use mathlib.Core.Bool.{Bool, true, false, cond}
-use mathlib.Core.List.{List, [], _∷_, _++_}
+use mathlib.Core.List.{List, _++_}
 use native.Mathlib.Nat.{le-trans, mul-one, mul-le-mul-left, mul-le-mul-right}
 use native.Mathlib.Omega.{arith}
 use lib.Pow.{pow-add}
@@ -11,11 +11,11 @@ use lib.Ieee.{Float, Format}
 use Rattle.lexical_util.specs.Answer.{Answer, refused}
 use Rattle.lexical_util.specs.Digit.{AreDigits, digitsValue}
 use Rattle.lexical_format.specs.declared.format.Pair.{Pair}
-use Rattle.lexical_reading.specs.Shape.{Tail, Shape}
-use Rattle.lexical_reading.specs.Read.{magnitude, isNegative, basePower, numerator, denominator, floatOf, exponentPlace, valueOf}
+use Rattle.lexical_reading.specs.Shape.{Shape}
+use Rattle.lexical_reading.specs.Read.{magnitude, isNegative, basePower, numerator, denominator, floatOf, valueOf}
 use Rattle.lexical_reading.proofs.ReadLaws.{value-within, value-beyond}
 use Rattle.lexical_read_float.specs.declared.scan.Number.{Number}
-use Rattle.lexical_read_float.specs.Kept.{Holds, empty, keepDigits}
+use Rattle.lexical_read_float.specs.Kept.{Holds}
 use Rattle.lexical_read_float.specs.Scan.{numberOf}
 use Rattle.lexical_read_float.proofs.KeptLaws.{digits-hold}
 

@@ -6,13 +6,13 @@ use mathlib.Core.List.{List, [], _∷_, _++_, append-nil}
 use mathlib.Core.Option.{Option, none, some}
 use native.Mathlib.Numerals.{add-one}
 use native.Mathlib.Omega.{arith}
-use borrow.Author.Tests.{eq-eqb, ne-eqb, eqb-true, eqb-false}
+use borrow.Author.Tests.{eq-eqb, ne-eqb}
 use lib.Dec.{eqb}
 use lib.ListN.{length, drop, getD, length-drop, drop-of-length-le}
 use lib.Seq.{drop-cons, drop-drop}
 use Rattle.lexical_util.specs.Digit.{digitIn, digitsValue}
-use Rattle.lexical_reading.specs.Shape.{Grammar, Sign, unsigned, plus, minus, Tail, absent, exponent, Shape}
-use Rattle.lexical_reading.specs.Parse.{Run, more, run, Parsed, found, stuck, mapParsed, allDigits, exponentDigits, signedExponent, parseTail, withTail, afterPoint, afterWhole, oneOrMore, parse}
+use Rattle.lexical_reading.specs.Shape.{Grammar, Sign, unsigned, plus, minus, Tail, exponent}
+use Rattle.lexical_reading.specs.Parse.{more, run, Parsed, found, stuck, mapParsed, allDigits, exponentDigits, signedExponent, parseTail, withTail, afterWhole, oneOrMore, parse}
 use Rattle.lexical_reading.specs.Read.{magnitude, isNegative, exponentPlace}
 use Rattle.lexical_reading.proofs.RunLaws.{Head}
 use Rattle.lexical_reading.proofs.ParseLaws.{no-point}
@@ -22,7 +22,7 @@ use Rattle.lexical_read_float.specs.declared.scan.ScannedTail.the-varian
 use Rattle.lexical_read_float.specs.declared.scan.Scanned.{Scanned}
 use Rattle.lexical_read_float.specs.declared.scan.Scanned.the-variants as scanned
 use Rattle.lexical_read_float.specs.Kept.{empty, keepDigits}
-use Rattle.lexical_read_float.specs.Scan.{grammar, beginsWith, exponentOf, scannedTail, scannedNumber, scannedShape, IsBounded}
+use Rattle.lexical_read_float.specs.Scan.{beginsWith, scannedTail, scannedNumber, scannedShape, IsBounded}
 use Rattle.lexical_read_float.specs.Digits.{digitsFrom, endFrom}
 use Rattle.lexical_read_float.proofs.KeptLaws.{keep-append}
 

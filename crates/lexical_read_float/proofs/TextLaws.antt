@@ -1,7 +1,7 @@
 -- A text in a format that passed the reader's check: what the scan of it says of its shape, and what its bits stand for. Assumes nothing.
 use Prim.Native.Nat.{ℕ, zero, suc, _-_, _*_, _%_, _^_, _≤_, _<_}
 use mathlib.Core.Path.{_≡_, refl, sym, ap, _∙_, subst}
-use mathlib.Core.Bool.{Bool, not}
+use mathlib.Core.Bool.{not}
 use mathlib.Core.List.{List, [], _∷_, _++_}
 use native.Mathlib.Nat.{le-trans, le-of-lt, mod-le, suc-mul, zero-mul}
 use native.Mathlib.Omega.{arith}
@@ -19,7 +19,7 @@ use Rattle.lexical_format.specs.declared.format.Pair.{Pair}
 use Rattle.lexical_format.specs.declared.format.NumberFormat.{NumberFormat}
 use Rattle.lexical_format.specs.declared.options.Options.{Options}
 use Rattle.lexical_format.specs.Format.{readingFormat}
-use Rattle.lexical_format.proofs.FormatLaws.{IsPair, readable}
+use Rattle.lexical_format.proofs.FormatLaws.{readable}
 use Rattle.lexical_reading.specs.Shape.{Shape}
 use Rattle.lexical_reading.specs.Parse.{Parsed, found, stuck, parse, ofParsed, shapeOf}
 use Rattle.lexical_reading.specs.Read.{grammarOf, valueOf, readText, readFloat}
@@ -28,7 +28,6 @@ use Rattle.lexical_reading.proofs.ReadLaws.{found-is-printed, answer-nearest, t
 use Rattle.lexical_read_float.specs.declared.scan.Number.{Number}
 use Rattle.lexical_read_float.specs.declared.scan.Scanned.{Scanned}
 use Rattle.lexical_read_float.specs.declared.scan.Scanned.the-variants as scanned
-use Rattle.lexical_read_float.specs.Kept.{empty, keepDigits}
 use Rattle.lexical_read_float.specs.Scan.{numberOf, scannedShape}
 use Rattle.lexical_read_float.specs.declared.bits.FloatBits.{FloatBits}
 use Rattle.lexical_read_float.specs.Bits.{ofFloatBits}

@@ -1,5 +1,5 @@
 -- What the code's one pass over a text finds, by the shape that the text has. No exported contract cites it. Definitions only.
-use Prim.Native.Nat.{ℕ, _-_, _*_, _≤_, min}
+use Prim.Native.Nat.{ℕ, _-_, _≤_, min}
 use mathlib.Core.Bool.{Bool, false}
 use mathlib.Core.List.{List, [], _∷_, _++_}
 use lib.Dec.{eqb}

@@ -4,3 +4,6 @@ pub mod DigitRuns
 pub mod Balance
 pub mod TextValue
 pub mod WrittenLaws
+pub mod StationLaws
+pub mod DemandLaws
+pub mod RecordLaws

@@ -2,7 +2,7 @@
 -- and all buffers of at least 2,275 bytes, whatever they held. Statements only; `DemandLaws` proves them.
 use Prim.Native.Nat.{ℕ, _≤_}
 use mathlib.Core.Path.{_≡_}
-use mathlib.Core.List.{List, [], _∷_, _++_}
+use mathlib.Core.List.{List, _++_}
 use lib.ListN.{length, take, drop}
 use lib.Ieee.{Float, Format}
 use Rattle.lexical_util.specs.Answer.{done}
@@ -12,7 +12,7 @@ use Rattle.lexical_format.specs.Format.{writingFormat}
 use Rattle.lexical_rewriting.specs.declared.text_format.TextFormat.{TextFormat}
 use Rattle.lexical_rewriting.specs.Claims.{Denotes}
 use Rattle.lexical_rewriting.specs.Rewrite.{rewritten, readIn, textIn, rewriteAnswer, rewriteBytes}
-use Rattle.lexical_rewriting.specs.Chain.{Station, Chained, arrived, Outcome, lastStation, chain, lastFormat}
+use Rattle.lexical_rewriting.specs.Chain.{Station, Chained, arrived, lastStation, chain, lastFormat}
 
 -- the reader accepts t under F, and its float is x: none of the reader's checks refuses it, and x is what its rounding rule picks
 abbrev pub IsFloatOf : Format → TextFormat → List ℕ → Float → Type 0

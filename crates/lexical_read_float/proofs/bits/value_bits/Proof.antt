@@ -49,7 +49,7 @@ returns-2 c =
 round-kept-requires-2 : tie.Need-round-kept-requires-2
 round-kept-requires-2 c κs =
     let s = c .before .before .before .before .before .before .before in
-    (s .pre .1, s .pre .0 .few-below, omega (arith, power-small (c .before .before .before .before)), omega (arith, places-small s))
+    (s .pre .1, s .pre .0 .few-below, omega (arith, places-small s, power-small (c .before .before .before .before)), omega (arith, places-small s, power-small (c .before .before .before .before)))
 
 rounded-bits-requires-2 : tie.Need-rounded-bits-requires-2
 rounded-bits-requires-2 c κs = search needs

@@ -1,0 +1,99 @@
+// A format from its record of 19 bytes. Bytes that are missing count as 0.
+ghost use mathlib.Core.Path.{_≡_};
+ghost use Prim.Native.Nat.{_≤_, _<_};
+ghost use lib.ListN.{length, drop};
+ghost use Rattle.lexical_rewriting.specs.Record.{byteAt, flagAt, modeAt, wordAt, signed, numberFormatOf, optionsOf, formatOf};
+use lexical_format::NumberFormat;
+use lexical_format::Options;
+use lexical_format::RoundMode;
+use lexical_rewriting::TextFormat;
+
+fn byte_at(bytes: &[u8], at: usize) -> u8
+    ensures { λ r. ⌜ r ≡ byteAt (now (bytes .entry)) at ⌝ }
+{
+    if at < bytes.len() { bytes[at] } else { 0 }
+}
+
+fn flag_at(bytes: &[u8], at: usize) -> bool
+    ensures { λ r. ⌜ r ≡ flagAt (now (bytes .entry)) at ⌝ }
+{
+    byte_at(bytes, at) != 0
+}
+
+fn mode_at(bytes: &[u8], at: usize) -> RoundMode
+    ensures { λ r. ⌜ r ≡ modeAt (now (bytes .entry)) at ⌝ }
+{
+    if flag_at(bytes, at) {
+        RoundMode::Truncate
+    } else {
+        RoundMode::Round
+    }
+}
+
+fn word_at(bytes: &[u8], at: usize) -> u32
+    requires { ⌜ at < 19 ⌝ }
+    ensures { λ r. ⌜ r ≡ wordAt (now (bytes .entry)) at ⌝ }
+    ensures small { λ r. ⌜ r < 65536 ⌝ }
+{
+    let low = byte_at(bytes, at);
+    let high = byte_at(bytes, at + 1);
+    low as u32 + 256 * high as u32
+}
+
+fn signed_at(bytes: &[u8], at: usize) -> i32
+    requires { ⌜ at < 19 ⌝ }
+    ensures { λ r. ⌜ r ≡ signed (wordAt (now (bytes .entry)) at) ⌝ }
+{
+    let word = word_at(bytes, at);
+    if word < 32768 {
+        return word as i32;
+    }
+    let below = 65535 - word;
+    -1 - below as i32
+}
+
+fn number_format_of(bytes: &[u8]) -> NumberFormat
+    ensures { λ r. ⌜ r ≡ numberFormatOf (now (bytes .entry)) ⌝ }
+{
+    NumberFormat {
+        mantissa_radix: byte_at(bytes, 0) as u32,
+        exponent_base: byte_at(bytes, 1) as u32,
+        exponent_radix: byte_at(bytes, 2) as u32,
+        required_exponent_notation: flag_at(bytes, 3),
+        no_exponent_notation: flag_at(bytes, 4),
+        required_exponent_sign: flag_at(bytes, 5),
+        no_exponent_without_fraction: flag_at(bytes, 6),
+    }
+}
+
+fn options_of(bytes: &[u8]) -> Options
+    ensures { λ r. ⌜ r ≡ optionsOf (now (bytes .entry)) ⌝ }
+{
+    Options {
+        max_significant_digits: word_at(bytes, 9),
+        min_significant_digits: word_at(bytes, 11),
+        positive_exponent_break: signed_at(bytes, 13),
+        negative_exponent_break: signed_at(bytes, 15),
+        round_mode: mode_at(bytes, 8),
+        trim_floats: flag_at(bytes, 7),
+        exponent: byte_at(bytes, 18),
+        decimal_point: byte_at(bytes, 17),
+    }
+}
+
+fn format_of(bytes: &[u8]) -> TextFormat
+    ensures { λ r. ⌜ r ≡ formatOf (now (bytes .entry)) ⌝ }
+{
+    TextFormat {
+        format: number_format_of(bytes),
+        options: options_of(bytes),
+    }
+}
+
+// The format of the record that begins at a place.
+pub(crate) fn format_at(bytes: &[u8], at: usize) -> TextFormat
+    requires { ⌜ at ≤ length (now bytes) ⌝ }
+    ensures { λ r. ⌜ r ≡ formatOf (drop at (now (bytes .entry))) ⌝ }
+{
+    format_of(&bytes[at..])
+}
