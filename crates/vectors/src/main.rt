@@ -1,10 +1,18 @@
-// Replays lists of floats and formats through the compiled writer, and counts the lines whose answer it gives again.
+// Replays lists of cases through the compiled calls, and counts the lines whose answer they give again.
 ghost use mathlib.Core.Path.{_≡_};
 ghost use lib.ListN.{length};
 
-mod parse;
+mod answer;
+mod fields;
+mod format;
+mod hex;
+mod kinds;
+mod numbers;
 mod print;
+mod reading;
 mod replay;
+mod tally;
+mod writing;
 
 // A list's bytes, and one more, so that a longer list is seen.
 fn space() -> [u8; 524288]

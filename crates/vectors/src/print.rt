@@ -1,14 +1,14 @@
 // What the program prints with.
-use crate::replay::Tally;
+use crate::answer::Answer;
+use crate::tally::Tally;
 use lexical_util::Refusal;
-use lexical_util::Written;
 use libc::STDOUT_FILENO;
 
 pub(crate) fn text(s: &[u8]) {
     io::write_all(STDOUT_FILENO, s);
 }
 
-fn number(n: u64) {
+pub(crate) fn number(n: u64) {
     io::print_decimal(STDOUT_FILENO, n);
 }
 
@@ -19,12 +19,21 @@ fn refusal(r: Refusal) {
     number(r.place as u64);
 }
 
-// A length and its text.
-fn length(n: usize, out: &[u8]) {
-    number(n as u64);
-    text(b" ");
-    if n <= out.len() {
-        text(&out[..n]);
+fn number_in(n: u64, hex: bool) {
+    if hex {
+        io::print_hex(STDOUT_FILENO, n, 1);
+        return;
+    }
+    number(n);
+}
+
+// What a call answered, a number as a list has it.
+pub(crate) fn answer(given: Answer, hex: bool) {
+    match given {
+        Answer::Number(n) => number_in(n, hex),
+        Answer::NotANumber => text(b"a NaN"),
+        Answer::Refused(r) => refusal(r),
+        Answer::Malformed => text(b"malformed"),
     }
 }
 
@@ -34,17 +43,6 @@ pub(crate) fn place(name: &[u8], line: usize) {
     text(b", line ");
     number(line as u64);
     text(b": ");
-}
-
-// `with <room> bytes <answer>`
-pub(crate) fn given(room: usize, answer: Written, out: &[u8]) {
-    text(b"with ");
-    number(room as u64);
-    text(b" bytes ");
-    match answer {
-        Written::Length(n) => length(n, out),
-        Written::Refused(r) => refusal(r),
-    }
 }
 
 // `<name>: <lines> lines, <agree> agree, <malformed> malformed`

@@ -21,35 +21,17 @@ add-number c = search needs
 find-requires : tie.Need-find-requires Inv-loop μ-loop
 find-requires c κs = search needs
 
-sub-judge-line : tie.Need-sub-judge-line Inv-loop μ-loop
-sub-judge-line c = search needs
+sub-replay-line : tie.Need-sub-replay-line Inv-loop μ-loop
+sub-replay-line c = search needs
 
-part-judge-line-start : tie.Need-part-judge-line-start Inv-loop μ-loop
-part-judge-line-start c = search needs
+part-replay-line-start : tie.Need-part-replay-line-start Inv-loop μ-loop
+part-replay-line-start c = search needs
 
-part-judge-line-end : tie.Need-part-judge-line-end Inv-loop μ-loop
-part-judge-line-end c = search needs
+part-replay-line-end : tie.Need-part-replay-line-end Inv-loop μ-loop
+part-replay-line-end c = search needs
 
-judge-line-requires : tie.Need-judge-line-requires Inv-loop μ-loop
-judge-line-requires c κs = search needs
-
-sub-if1 : tie.Need-sub-if1 Inv-loop μ-loop
-sub-if1 c = search needs
-
-sub-show : tie.Need-sub-show Inv-loop μ-loop
-sub-show c = search needs
-
-part-show-start : tie.Need-part-show-start Inv-loop μ-loop
-part-show-start c = search needs
-
-part-show-end : tie.Need-part-show-end Inv-loop μ-loop
-part-show-end c = search needs
-
-show-requires : tie.Need-show-requires Inv-loop μ-loop
-show-requires c κs = search needs
-
-counted-requires : tie.Need-counted-requires Inv-loop μ-loop
-counted-requires c κs = search needs
+replay-line-requires : tie.Need-replay-line-requires Inv-loop μ-loop
+replay-line-requires c κs = search needs
 
 add-at : tie.Need-add-at Inv-loop μ-loop
 add-at c = search needs
@@ -72,16 +54,10 @@ list-spec =
     loop-holds
     add-number
     find-requires
-    sub-judge-line
-    part-judge-line-start
-    part-judge-line-end
-    judge-line-requires
-    sub-if1
-    sub-show
-    part-show-start
-    part-show-end
-    show-requires
-    counted-requires
+    sub-replay-line
+    part-replay-line-start
+    part-replay-line-end
+    replay-line-requires
     add-at
     loop-less
     loop-again

@@ -1,0 +1,110 @@
+// A chain of 100,001 stations, and chains that are refused, each with the station, and with what the lent bytes hold then.
+ghost use Prim.Native.Nat.{_<_};
+use crate::floats;
+use crate::formats;
+use crate::print;
+use lexical_rewrite::chain_f64;
+use lexical_rewriting::TextFormat;
+
+// Records of 100,000 stations.
+const LONG: usize = 1_900_000;
+
+fn space() -> [u8; LONG] {
+    [0; LONG]
+}
+
+fn at(pattern: &[u8; 38], i: usize) -> u8
+    requires { ⌜ i < 38 ⌝ }
+{
+    pattern[i]
+}
+
+// Thursday's record and Wednesday's in turn.
+fn fill(records: &mut [u8]) {
+    let pattern = formats::RECORDS;
+    let mut i = 0;
+    while i < records.len() {
+        records[i] = at(&pattern, i % 38);
+        i += 1;
+    }
+}
+
+// Every byte that was lent, where the chain left it as it was.
+fn print_kept(out: &[u8]) {
+    let mut i = 0;
+    while i < out.len() {
+        if out[i] != 0 {
+            print::text(b", and changed a byte");
+            return;
+        }
+        i += 1;
+    }
+    print::text(b", and every byte as it was");
+}
+
+fn long() {
+    let mut records = space();
+    fill(&mut records);
+    let mut out = floats::room();
+    let first = formats::wednesday();
+    let text = b"1.921FB54442D18p1";
+    let answer = chain_f64(text, formats::tuesday(), first, &records, &mut out);
+    print::text(b"100001 stations: ");
+    print::chained(answer, &out);
+    print::text(b"\n");
+}
+
+fn refused(name: &[u8], text: &[u8], first: TextFormat, further: &[u8], out: &mut [u8]) {
+    let answer = chain_f64(text, formats::tuesday(), first, further, out);
+    print::text(name);
+    print::text(b": ");
+    print::chained(answer, out);
+    print_kept(out);
+    print::text(b"\n");
+}
+
+// With the text 1.8p0, or a text that is refused; with all records or the first bytes of them; and at the end with a buffer that is too short.
+pub(crate) fn run() {
+    long();
+    let records = formats::RECORDS;
+    let first = formats::wednesday();
+    let mut out = floats::room();
+    refused(b"no text", b"", first, &records, &mut out);
+    refused(b"a wrong byte", b"1.8q0", first, &records, &mut out);
+    refused(
+        b"an exponent of 32,768",
+        b"1p+32768",
+        first,
+        &records,
+        &mut out,
+    );
+    refused(b"too large", b"1p1024", first, &records, &mut out);
+    refused(
+        b"1,201 digits",
+        b"1.8p0",
+        formats::limited(1201),
+        &records,
+        &mut out,
+    );
+    refused(
+        b"a record cut off behind its base",
+        b"1.8p0",
+        first,
+        &records[0..21],
+        &mut out,
+    );
+    refused(
+        b"a record cut off before its mark",
+        b"1.8p0",
+        first,
+        &records[0..18],
+        &mut out,
+    );
+    refused(
+        b"a buffer a byte too short",
+        b"1.8p0",
+        first,
+        &records[0..19],
+        &mut out[0..2],
+    );
+}
