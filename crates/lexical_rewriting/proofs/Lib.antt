@@ -7,3 +7,4 @@ pub mod WrittenLaws
 pub mod StationLaws
 pub mod DemandLaws
 pub mod RecordLaws
+pub mod Worked
