@@ -1,16 +1,15 @@
 // A chain of stations: document 01, "Rewriting". Each station reads what the one before it wrote, up to the length returned, under that one's format. Nothing is written into the bytes lent before the last station.
 ghost use mathlib.Core.Path.{_≡_};
 ghost use Prim.Native.Nat.{_≤_, _<_};
-ghost use lib.ListN.{length, take};
+ghost use lib.ListN.{length, take, drop};
 ghost use lib.Ieee.{binary32, binary64};
 ghost use Rattle.lexical_float.specs.Encoding.{formatOf};
 ghost use Rattle.lexical_rewriting.specs.Rewrite.{readIn, rewriteAnswer, rewriteBytes};
-ghost use Rattle.lexical_rewriting.specs.Record.{formatsOf};
+ghost use Rattle.lexical_rewriting.specs.Record.{formatOf as recordFormat, formatsOf};
 ghost use Rattle.lexical_rewriting.specs.Chain.{atStation, chainOf};
 ghost use Rattle.lexical_rewriting.specs.Demand.{NeverLost};
 ghost use Rattle.lexical_rewrite.specs.Answer.{ofRewritten, ofChained};
 ghost use Rattle.lexical_rewrite.specs.Code.{onFrom, sourceAt};
-use crate::record::format_at;
 use crate::rewrite::Rewritten;
 use crate::rewrite::rewrite_f32;
 use crate::rewrite::rewrite_f64;
@@ -79,6 +78,14 @@ fn station_within(
             write_read_f64(answer, to, buffer)
         }
     }
+}
+
+// The format of the record that begins at a place.
+fn format_at(bytes: &[u8], at: usize) -> TextFormat
+    requires { ⌜ at ≤ length (now bytes) ⌝ }
+    ensures { λ r. ⌜ r ≡ recordFormat (drop at (now (bytes .entry))) ⌝ }
+{
+    lexical_record::format_of(&bytes[at..])
 }
 
 // The format of the text that the station of the record at a place reads: that of the station before it.

@@ -1,6 +1,5 @@
 // Rewriting a text from one format into another, and a chain of such rewritings.
 pub mod chain;
-mod record;
 pub mod rewrite;
 
 pub use chain::Chained;

@@ -1,8 +1,8 @@
--- `lexical_rewrite::record::mode_at` meets its contract, by the flag. Assumes nothing.
+-- `lexical_record::record::mode_at` meets its contract, by the flag. Assumes nothing.
 use mathlib.Core.Path.{sym, _∙_}
 use borrow.Author.Needs.{needs}
-use Rattle.lexical_rewrite.proofs.record.mode_at.Statement.{statement}
-use Rattle.lexical_rewrite.proofs.record.mode_at.Tie as tie
+use Rattle.lexical_record.proofs.record.mode_at.Statement.{statement}
+use Rattle.lexical_record.proofs.record.mode_at.Tie as tie
 
 flag-at-requires : tie.Need-flag-at-requires
 flag-at-requires c κs = search needs

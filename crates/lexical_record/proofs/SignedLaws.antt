@@ -1,4 +1,4 @@
--- What a record's bytes are: those from a place on; and a number of two bytes as an i32, below 32,768 as it stands, else -1 less what 65,535 is above it. Assumes nothing.
+-- A number of two bytes as an i32: below 32,768 as it stands, else -1 less what 65,535 is above it. Assumes nothing.
 use Prim.Native.Nat.{ℕ, _-_, _≤_, _<_, zero, suc}
 use mathlib.Core.Path.{_≡_, refl, ap, _∙_}
 use mathlib.Core.List.{List}
@@ -13,11 +13,6 @@ use mir.Val.{SFits, toZ, ofZ}
 use mir.Facts.{toZ-pos, toZ-ofZ}
 use Rattle.lexical_rewriting.specs.Record.{signed}
 
--- ---- from a place on
-pub rest-is : (n : ℕ) (l : List ℕ) → take (length l - n) (drop n l) ≡ drop n l
-rest-is n l = take-all (length l - n) (drop n l) (le-of-eq (length-drop n l))
-
--- ---- two bytes
 pub signed-low : (n : ℕ) → n < 32768 → toZ w32 n ≡ signed n
 signed-low n h = toZ-pos w32 {n = n} (omega arith) ∙ rw (lt-ltb n 32768 h)
 

@@ -1,9 +1,9 @@
--- `lexical_rewrite::record::byte_at` meets its contract: past the last byte it is 0. Assumes nothing.
+-- `lexical_record::record::byte_at` meets its contract: past the last byte it is 0. Assumes nothing.
 use mathlib.Core.Path.{sym}
 use borrow.Author.Needs.{needs}
 use lib.ListN.{List·getD-eq-default}
-use Rattle.lexical_rewrite.proofs.record.byte_at.Statement.{statement}
-use Rattle.lexical_rewrite.proofs.record.byte_at.Tie as tie
+use Rattle.lexical_record.proofs.record.byte_at.Statement.{statement}
+use Rattle.lexical_record.proofs.record.byte_at.Tie as tie
 
 shared-slice-read-result : tie.Need-shared-slice-read-result
 shared-slice-read-result c = search needs

@@ -1,7 +1,6 @@
 // A format from its record of 19 bytes. Bytes that are missing count as 0.
 ghost use mathlib.Core.Path.{_≡_};
-ghost use Prim.Native.Nat.{_≤_, _<_};
-ghost use lib.ListN.{length, drop};
+ghost use Prim.Native.Nat.{_<_};
 ghost use Rattle.lexical_rewriting.specs.Record.{byteAt, flagAt, modeAt, wordAt, signed, numberFormatOf, optionsOf, formatOf};
 use lexical_format::NumberFormat;
 use lexical_format::Options;
@@ -81,19 +80,12 @@ fn options_of(bytes: &[u8]) -> Options
     }
 }
 
-fn format_of(bytes: &[u8]) -> TextFormat
+// The format of the record in front.
+pub fn format_of(bytes: &[u8]) -> TextFormat
     ensures { λ r. ⌜ r ≡ formatOf (now (bytes .entry)) ⌝ }
 {
     TextFormat {
         format: number_format_of(bytes),
         options: options_of(bytes),
     }
-}
-
-// The format of the record that begins at a place.
-pub(crate) fn format_at(bytes: &[u8], at: usize) -> TextFormat
-    requires { ⌜ at ≤ length (now bytes) ⌝ }
-    ensures { λ r. ⌜ r ≡ formatOf (drop at (now (bytes .entry))) ⌝ }
-{
-    format_of(&bytes[at..])
 }

@@ -1,7 +1,7 @@
--- `lexical_rewrite::record::flag_at` meets its contract. Assumes nothing.
+-- `lexical_record::record::flag_at` meets its contract. Assumes nothing.
 use borrow.Author.Needs.{needs}
-use Rattle.lexical_rewrite.proofs.record.flag_at.Statement.{statement}
-use Rattle.lexical_rewrite.proofs.record.flag_at.Tie as tie
+use Rattle.lexical_record.proofs.record.flag_at.Statement.{statement}
+use Rattle.lexical_record.proofs.record.flag_at.Tie as tie
 
 byte-at-requires : tie.Need-byte-at-requires
 byte-at-requires c κs = search needs

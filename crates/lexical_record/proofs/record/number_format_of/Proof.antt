@@ -1,8 +1,8 @@
--- `lexical_rewrite::record::number_format_of` meets its contract, byte by byte. Assumes nothing.
+-- `lexical_record::record::number_format_of` meets its contract, byte by byte. Assumes nothing.
 use borrow.Author.Needs.{needs}
 use Rattle.lexical_rewriting.specs.Record.{numberFormatOf}
-use Rattle.lexical_rewrite.proofs.record.number_format_of.Statement.{statement}
-use Rattle.lexical_rewrite.proofs.record.number_format_of.Tie as tie
+use Rattle.lexical_record.proofs.record.number_format_of.Statement.{statement}
+use Rattle.lexical_record.proofs.record.number_format_of.Tie as tie
 
 byte-at-requires : tie.Need-byte-at-requires
 byte-at-requires c κs = search needs

@@ -1,10 +1,10 @@
--- `lexical_rewrite::record::options_of` meets its contract, byte by byte. Assumes nothing.
+-- `lexical_record::record::options_of` meets its contract, byte by byte. Assumes nothing.
 use mathlib.Core.Path.{_∙_}
 use borrow.Author.Needs.{needs}
 use Rattle.lexical_util.proofs.DifferenceLaws.{read-back}
 use Rattle.lexical_rewriting.specs.Record.{optionsOf}
-use Rattle.lexical_rewrite.proofs.record.options_of.Statement.{statement}
-use Rattle.lexical_rewrite.proofs.record.options_of.Tie as tie
+use Rattle.lexical_record.proofs.record.options_of.Statement.{statement}
+use Rattle.lexical_record.proofs.record.options_of.Tie as tie
 
 word-at-requires : tie.Need-word-at-requires
 word-at-requires c κs = search needs

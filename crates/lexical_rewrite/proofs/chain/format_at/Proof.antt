@@ -1,12 +1,12 @@
--- `lexical_rewrite::record::format_at` meets its contract: the bytes from a place on are what is left of them there. Assumes nothing.
+-- `lexical_rewrite::chain::format_at` meets its contract: the bytes from a place on are what is left of them there. Assumes nothing.
 use mathlib.Core.Path.{ap, _∙_}
 use mathlib.Core.List.{List}
 use Prim.Native.Nat.{ℕ}
 use borrow.Author.Needs.{needs}
 use Rattle.lexical_rewriting.specs.Record.{formatOf}
-use Rattle.lexical_rewrite.proofs.ByteLaws.{rest-is}
-use Rattle.lexical_rewrite.proofs.record.format_at.Statement.{statement}
-use Rattle.lexical_rewrite.proofs.record.format_at.Tie as tie
+use Rattle.lexical_rewrite.proofs.ChainLaws.{rest-is}
+use Rattle.lexical_rewrite.proofs.chain.format_at.Statement.{statement}
+use Rattle.lexical_rewrite.proofs.chain.format_at.Tie as tie
 
 sub-format-of : tie.Need-sub-format-of
 sub-format-of c = search needs

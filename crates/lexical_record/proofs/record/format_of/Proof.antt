@@ -1,7 +1,7 @@
--- `lexical_rewrite::record::format_of` meets its contract. Assumes nothing.
+-- `lexical_record::record::format_of` meets its contract. Assumes nothing.
 use borrow.Author.Needs.{needs}
-use Rattle.lexical_rewrite.proofs.record.format_of.Statement.{statement}
-use Rattle.lexical_rewrite.proofs.record.format_of.Tie as tie
+use Rattle.lexical_record.proofs.record.format_of.Statement.{statement}
+use Rattle.lexical_record.proofs.record.format_of.Tie as tie
 
 number-format-of-requires : tie.Need-number-format-of-requires
 number-format-of-requires c κs = search needs
