@@ -3,7 +3,7 @@ use Prim.Native.Nat.{ℕ, _+_, _*_, _^_, _≤_, _<_, min}
 use mathlib.Core.Path.{_≡_, sym, ap, ap₂, _∙_}
 use mathlib.Core.Bool.{Bool, true, false, cond}
 use mathlib.Core.List.{List, _++_}
-use native.Mathlib.Nat.{le-trans, mul-one, mul-le-mul-left, mul-le-mul-right}
+use native.Mathlib.Nat.{mul-one}
 use native.Mathlib.Omega.{arith}
 use lib.Pow.{pow-add}
 use lib.ListN.{length}
@@ -18,9 +18,6 @@ use Rattle.lexical_read_float.specs.declared.scan.Number.{Number}
 use Rattle.lexical_read_float.specs.Kept.{Holds}
 use Rattle.lexical_read_float.specs.Scan.{numberOf}
 use Rattle.lexical_read_float.proofs.KeptLaws.{digits-hold}
-
-pub product-le : (x y a b : ℕ) → x ≤ a → y ≤ b → x * y ≤ a * b
-product-le x y a b h k = le-trans (mul-le-mul-left x k) (mul-le-mul-right b h)
 
 -- the number that a shape's digits spell
 abbrev pub spelled : Pair → Shape → ℕ

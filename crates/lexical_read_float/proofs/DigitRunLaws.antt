@@ -1,10 +1,10 @@
 -- The digits in a text from a place on, one byte at a time, and a sum of digits that saturates. Assumes nothing.
 use Prim.Native.Nat.{ℕ, suc, _+_, _-_, _*_, _%_, _≤_, _<_, min}
 use mathlib.Core.Path.{_≡_, refl, sym, ap, _∙_, subst}
-use mathlib.Core.Bool.{Bool, true, false, _&&_}
+use mathlib.Core.Bool.{Bool, true, false, _&&_, and-true, and-assoc}
 use mathlib.Core.List.{List, [], _∷_}
 use mathlib.Core.Option.{Option, none, some}
-use native.Mathlib.Nat.{le-trans, lt-of-not-le, mul-one, mul-le-mul-left, mul-le-mul-right}
+use native.Mathlib.Nat.{lt-of-not-le, mul-one, mul-le-mul-left}
 use native.Mathlib.Numerals.{add-one}
 use native.Mathlib.Decide.{decLe}
 use native.Mathlib.Omega.{arith}
@@ -45,14 +45,6 @@ value-from-a x d h e = record {
 
 pub value-other : (x : ℕ) → 57 < x → x < 65 → IsValue (digitValue x) 255
 value-other x h k = record { digit = λ l. absurd (omega arith); no-digit = λ l. value-between x h k }
-
-pub and-true : (a : Bool) → (a && true) ≡ a
-and-true true = refl
-and-true false = refl
-
-pub and-assoc : (a b c : Bool) → ((a && b) && c) ≡ (a && (b && c))
-and-assoc true b c = refl
-and-assoc false b c = refl
 
 pub cons-nil : (d : ℕ) (ds : List ℕ) → d ∷ ds ≡ [] → ⊥
 cons-nil d ds e = let z : _≡_ {A = ℕ} 0 1 = cc in omega arith
@@ -117,9 +109,6 @@ module _ (radix x : ℕ) (ds : List ℕ) (w : ℕ) (makes : min (readOn radix x 
       saturates radix rest y (x * radix + d) h (let z : min y 32768 ≡ min (x * radix + d) 32768 = omega arith in z)
       ∙ ap (λ (l : List ℕ). min (readOn radix x l) 32768) (sym e)
       ∙ makes
-
-pub product-small : (x radix : ℕ) → x ≤ 32768 → radix ≤ 32 → x * radix ≤ 1048576
-product-small x radix h k = le-trans (mul-le-mul-left x k) (mul-le-mul-right 32 h)
 
 -- ---- whether all digits are 0: those so far, and those still to come
 pub zeros-done : (clear : Bool) (ds : List ℕ) (w : Bool) → (clear && allZero ds) ≡ w → ds ≡ [] → clear ≡ w

@@ -1,7 +1,7 @@
 -- What is kept of a number, one digit at a time. Assumes nothing.
 use Prim.Native.Nat.{ℕ, suc, _+_, _-_, _*_, _%_, _^_, _≤_, _<_}
 use mathlib.Core.Path.{_≡_, refl, sym, ap, ap₂, _∙_}
-use mathlib.Core.Bool.{Bool, _&&_}
+use mathlib.Core.Bool.{Bool, _&&_, and-true, and-assoc}
 use mathlib.Core.List.{List, [], _∷_}
 use native.Mathlib.Nat.{le-trans, lt-of-not-le, mul-suc, mul-le-mul-left, mul-le-mul-right, mod-eq-of-lt}
 use native.Mathlib.Decide.{decLe}
@@ -13,7 +13,7 @@ use lib.ListN.{length}
 use Rattle.lexical_read_float.specs.declared.kept.Kept.{Kept}
 use Rattle.lexical_read_float.specs.Kept.{full, keepDigit, keepDigits}
 use Rattle.lexical_read_float.specs.Digits.{digitsFrom, endFrom, allZero, Filled}
-use Rattle.lexical_read_float.proofs.DigitRunLaws.{and-true, and-assoc, cons-nil}
+use Rattle.lexical_read_float.proofs.DigitRunLaws.{cons-nil}
 
 -- bits that are not full have room for five more
 pub shift-small : (bits b : ℕ) → bits < full → b ≤ 5 → bits * 2 ^ b ≤ 0x7fffffffffffffe0

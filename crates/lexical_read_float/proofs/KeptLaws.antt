@@ -4,24 +4,19 @@ use mathlib.Core.Path.{_≡_, refl}
 use mathlib.Core.Bool.{Bool, true, false, cond, _&&_}
 use mathlib.Core.List.{List, [], _∷_, _++_}
 use mathlib.Core.Logic.{inl, inr}
-use native.Mathlib.Nat.{not-le-of-lt, eq-zero-or-pos, suc-mul}
+use native.Mathlib.Nat.{not-le-of-lt, eq-zero-or-pos}
 use native.Mathlib.Omega.{arith}
 use borrow.Author.Tests.{ltb-true, ltb-false}
 use lib.Dec.{ltb, eqb}
-use lib.ListN.{length}
 use lib.Pow.{pow-pos}
 use Rattle.lexical_util.specs.Digit.{AreDigits, readOn, digitsValue}
 use Rattle.lexical_round.specs.Guard.{Leading}
 use Rattle.lexical_round.proofs.GuardLaws.{longer}
 use Rattle.lexical_read_float.specs.declared.kept.Kept.{Kept}
-use Rattle.lexical_read_float.specs.Kept.{full, Holds, empty, keepDigit, keepDigits}
-use Rattle.lexical_read_float.specs.Rounding.{IsFull}
+use Rattle.lexical_read_float.specs.Kept.{full, IsFull, Holds, empty, keepDigit, keepDigits}
 
-abbrev pub Leads : ℕ → Kept → Type 0
+abbrev Leads : ℕ → Kept → Type 0
 Leads n k = Leading n (2 ^ k .below) (k .bits) (k .clear)
-
-pub holds-leads : (n : ℕ) (k : Kept) → Holds n k → Leads n k
-holds-leads n k h = record { rest = h .rest; is = h .is; small = h .small; none = h .none; some = h .some }
 
 -- ---- where nothing is below the bits, they are the number
 pub whole-is : (n bits m : ℕ) (clear : Bool) → m ≡ 0 → Leading n (2 ^ m) bits clear → n ≡ bits
@@ -61,9 +56,6 @@ module _ (b d : ℕ) (k : Kept) where
       (λ h. appended n (k .bits) (k .below) b d (k .clear) (elim (eq-zero-or-pos (k .below)) [ inl e ↦ e | inr p ↦ absurd (not-le-of-lt h (f p)) ]) l)
       (λ h. longer n (k .below) b d (k .bits) (k .clear) D l)
 
-  digit-below : keepDigit b k d .below ≤ k .below + b
-  digit-below = by-room (λ r. r .below ≤ k .below + b) (λ l. omega arith) (λ h. omega arith)
-
 -- ---- a run of digits
 digits-lead : (b : ℕ) (ds : List ℕ) (n : ℕ) (k : Kept) → AreDigits (2 ^ b) ds → IsFull k → Leads n k → Leads (readOn (2 ^ b) n ds) (keepDigits b k ds)
 unfolding readOn keepDigits
@@ -75,11 +67,6 @@ unfolding keepDigits
 run-full b k [] f = f
 run-full b k (d ∷ ds) f = run-full b (keepDigit b k d) ds (digit-full b d k f)
 
-run-below : (b : ℕ) (k : Kept) (ds : List ℕ) → keepDigits b k ds .below ≤ k .below + length ds * b
-unfolding keepDigits
-run-below b k [] = omega arith
-run-below b k (d ∷ ds) = let h = run-below b (keepDigit b k d) ds in let g = digit-below b d k in omega (arith, suc-mul (length ds) b)
-
 none-kept : IsFull empty
 none-kept p = absurd (omega arith)
 
@@ -87,13 +74,11 @@ none-kept p = absurd (omega arith)
 pub digits-full : (b : ℕ) (ds : List ℕ) → IsFull (keepDigits b empty ds)
 digits-full b ds = run-full b empty ds none-kept
 
-pub digits-below : (b : ℕ) (ds : List ℕ) → keepDigits b empty ds .below ≤ length ds * b
-digits-below b ds = let h = run-below b empty ds in omega arith
-
 pub digits-hold : (b : ℕ) (ds : List ℕ) → AreDigits (2 ^ b) ds → Holds (digitsValue (2 ^ b) ds) (keepDigits b empty ds)
-digits-hold b ds are =
-    let l = digits-lead b ds 0 empty are none-kept (record { rest = 0; is = refl; small = pow-pos 0; none = λ t. refl; some = λ t. absurd t }) in
-    record { rest = l .rest; is = l .is; small = l .small; none = l .none; some = l .some; is-full = digits-full b ds }
+digits-hold b ds are = record {
+  leads = digits-lead b ds 0 empty are none-kept (record { rest = 0; is = refl; small = pow-pos 0; none = λ t. refl; some = λ t. absurd t });
+  is-full = digits-full b ds;
+}
 
 pub keep-append : (b : ℕ) (k : Kept) (xs ys : List ℕ) → keepDigits b (keepDigits b k xs) ys ≡ keepDigits b k (xs ++ ys)
 unfolding keepDigits

@@ -22,9 +22,9 @@ use Rattle.lexical_round.proofs.RoundLaws.{pattern-le, leading-float, shifted-f
 use Rattle.lexical_read_float.specs.declared.kept.Kept.{Kept}
 use Rattle.lexical_read_float.specs.declared.round.Rounded.{Rounded}
 use Rattle.lexical_read_float.specs.declared.round.Rounded.the-variants.{Bits, TooLarge}
-use Rattle.lexical_read_float.specs.Kept.{full, Holds}
-use Rattle.lexical_read_float.specs.Rounding.{IsFull, ofRounded, IsFinite, roundedBits}
-use Rattle.lexical_read_float.proofs.KeptLaws.{holds-leads, whole-is}
+use Rattle.lexical_read_float.specs.Kept.{full, IsFull, Holds}
+use Rattle.lexical_read_float.specs.Rounding.{ofRounded, IsFinite, roundedBits}
+use Rattle.lexical_read_float.proofs.KeptLaws.{whole-is}
 
 -- ---- shifts of a word
 module _ (bits count : ℕ) (word : bits < 18446744073709551616) where
@@ -175,7 +175,7 @@ module _ (f : Format) (k : Kept) (up down : ℕ) where
   pub zero-kept : IsFull k → k .bits ≡ 0 → Answers f k up down (Bits 0)
   zero-kept is-full e =
       let z : k .below ≡ 0 = elim (eq-zero-or-pos (k .below)) [ inl e ↦ e | inr p ↦ absurd (let g = is-full p in omega arith) ] in
-      (λ n h. rw (whole-is n (k .bits) (k .below) (k .clear) z (holds-leads n k h), e, zero-mul (2 ^ up)) (sym (zero-float f (2 ^ down) (pow-pos down))), some f)
+      (λ n h. rw (whole-is n (k .bits) (k .below) (k .clear) z (h .leads), e, zero-mul (2 ^ up)) (sym (zero-float f (2 ^ down) (pow-pos down))), some f)
     where
       some : (f : Format) → 0 < infinity f
       some binary32 = omega arith
@@ -184,7 +184,7 @@ module _ (f : Format) (k : Kept) (up down : ℕ) where
   pub long-kept : (r : Rounded) → full ≤ k .bits → r ≡ roundedBits f (k .bits) (k .clear) (k .below + up) down → Answers f k up down r
   long-kept r l is =
       rw is (
-        λ n h. bits-answer f (k .bits) (k .clear) (k .below + up) down ∙ sym (leading-float f n (k .below) (k .bits) (k .clear) up down (holds-leads n k h) (long f (k .bits) l)),
+        λ n h. bits-answer f (k .bits) (k .clear) (k .below + up) down ∙ sym (leading-float f n (k .below) (k .bits) (k .clear) up down (h .leads) (long f (k .bits) l)),
         bits-finite f (k .bits) (k .clear) (k .below + up) down,
       )
 
@@ -194,7 +194,7 @@ module _ (f : Format) (k : Kept) (up down : ℕ) where
       let w : Leading x (2 ^ 0) x true = record { rest = 0; is = omega arith; small = pow-pos 0; none = λ t. refl; some = λ t. absurd t } in
       rw is (
         λ n h.
-            rw (whole-is n (k .bits) (k .below) (k .clear) e (holds-leads n k h), shifted-float f (k .bits) up down s, ← x-is, leading-float f x 0 x true up (down + s) w (long f x l), zero-add)
+            rw (whole-is n (k .bits) (k .below) (k .clear) e (h .leads), shifted-float f (k .bits) up down s, ← x-is, leading-float f x 0 x true up (down + s) w (long f x l), zero-add)
             (bits-answer f x true up (down + s)),
         bits-finite f x true up (down + s),
       )

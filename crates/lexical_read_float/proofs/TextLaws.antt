@@ -1,17 +1,13 @@
 -- A text in a format that passed the reader's check: what the scan of it says of its shape, and what its bits stand for. Assumes nothing.
-use Prim.Native.Nat.{ℕ, zero, suc, _-_, _*_, _%_, _^_, _≤_, _<_}
+use Prim.Native.Nat.{ℕ, zero, suc, _-_, _*_, _^_, _≤_, _<_}
 use mathlib.Core.Path.{_≡_, refl, sym, ap, _∙_, subst}
-use mathlib.Core.Bool.{not}
-use mathlib.Core.List.{List, [], _∷_, _++_}
-use native.Mathlib.Nat.{le-trans, le-of-lt, mod-le, suc-mul, zero-mul}
+use mathlib.Core.List.{List, _++_}
+use native.Mathlib.Nat.{le-trans, suc-mul, zero-mul}
 use native.Mathlib.Omega.{arith}
 use borrow.Author.Tests.{lt-ltb, le-ltb}
-use lib.Arith.{le→nltb}
-use lib.Dec.{T}
 use lib.ListN.{length}
 use lib.Pow.{pow-mono}
-use lib.Ieee.{Float, Format, hid, ones, top, nanBits}
-use lib.Ieee.Bits.{nanBits-above}
+use lib.Ieee.{Float, Format}
 use Rattle.lexical_util.specs.Answer.{Answer, done, refused, andThen}
 use Rattle.lexical_util.specs.Digit.{AreDigits}
 use Rattle.lexical_util.proofs.RadixLaws.{radix-bounds}
@@ -24,6 +20,7 @@ use Rattle.lexical_reading.specs.Shape.{Shape}
 use Rattle.lexical_reading.specs.Parse.{Parsed, found, stuck, parse, ofParsed, shapeOf}
 use Rattle.lexical_reading.specs.Read.{grammarOf, valueOf, readText, readFloat}
 use Rattle.lexical_reading.specs.Claims.{IsNearest, IsServed}
+use Rattle.lexical_reading.proofs.RunLaws.{digits-append}
 use Rattle.lexical_reading.proofs.ReadLaws.{found-is-printed, answer-nearest, texts-are-served}
 use Rattle.lexical_read_float.specs.declared.scan.Number.{Number}
 use Rattle.lexical_read_float.specs.declared.scan.Scanned.{Scanned}
@@ -31,7 +28,7 @@ use Rattle.lexical_read_float.specs.declared.scan.Scanned.the-variants a
 use Rattle.lexical_read_float.specs.Scan.{numberOf, scannedShape}
 use Rattle.lexical_read_float.specs.declared.bits.FloatBits.{FloatBits}
 use Rattle.lexical_read_float.specs.Bits.{ofFloatBits}
-use Rattle.lexical_read_float.specs.Rounding.{IsFull}
+use Rattle.lexical_read_float.specs.Kept.{IsFull}
 use Rattle.lexical_read_float.proofs.KeptLaws.{digits-full}
 
 -- ---- the numbers of a format that passed
@@ -68,10 +65,6 @@ pub record IsNumberOf (f : Format) (F : NumberFormat) (o : Options) (row : Pair)
   pub reads : valueOf f row (F .«exponent_radix») t shape ≡ readText f (grammarOf F o) t row
   pub full : IsFull (n .kept)
 
-all-append : (radix : ℕ) (xs ys : List ℕ) → AreDigits radix xs → AreDigits radix ys → AreDigits radix (xs ++ ys)
-all-append radix [] ys p q = q
-all-append radix (x ∷ xs) ys p q = (p .0, all-append radix xs ys (p .1) q)
-
 module _ (f : Format) (F : NumberFormat) (o : Options) (row : Pair) (t : List ℕ) where
   pub text-long : 4096 < length t → refused 12 0 ≡ readText f (grammarOf F o) t row
   unfolding readText
@@ -104,7 +97,7 @@ module _ (f : Format) (F : NumberFormat) (o : Options) (row : Pair) (t : List �
             record {
               shape = s;
               is = same;
-              digits = all-append (2 ^ row .b) (s .whole) (s .fraction) (rw radix at (formed .whole-digits)) (rw radix at (formed .fraction-digits));
+              digits = digits-append (2 ^ row .b) (s .whole) (s .fraction) (rw radix at (formed .whole-digits)) (rw radix at (formed .fraction-digits));
               reads = sym (by-shape short ∙ ap (λ (x : Answer Shape). andThen x (valueOf f row (F .«exponent_radix») t)) shaped);
               full = rw same (digits-full (row .b) (s .whole ++ s .fraction));
             }
@@ -125,10 +118,6 @@ module _ (f : Format) (F : NumberFormat) (o : Options) (t : List ℕ) where
 
   pub served-of : (a : Answer Float) → a ≡ readFloat f F o t → IsServed f F o t a
   served-of a e = subst (IsServed f F o t) (sym e) (texts-are-served f F o t)
-
--- ---- finite bits are no NaN's
-pub no-nan : (f : Format) (n : ℕ) → n < ones f * hid f → T (not (nanBits f n))
-no-nan f n h = rw (nanBits-above f n) (le→nltb (ones f * hid f) (n % top f) (le-trans (mod-le n (top f)) (le-of-lt h)))
 
 -- ---- the answer of each width, from the bits that both share
 module _ (f : Format) (F : NumberFormat) (o : Options) (t : List ℕ) (r : FloatBits) (is : ofFloatBits f r ≡ readFloat f F o t) where

@@ -1,18 +1,12 @@
 -- What rounding the kept bits answers. No exported contract cites it. Definitions only.
-use Prim.Native.Nat.{ℕ, _≤_, _<_}
+use Prim.Native.Nat.{ℕ, _<_}
 use mathlib.Core.Bool.{Bool, cond}
 use lib.Dec.{leb}
 use lib.Ieee.{Float, Format, ofBits}
 use Rattle.lexical_util.specs.Answer.{Answer, done, refused}
 use Rattle.lexical_round.specs.Pattern.{pattern, ceiling, infinity}
-use Rattle.lexical_read_float.specs.declared.kept.Kept.{Kept}
 use Rattle.lexical_read_float.specs.declared.round.Rounded.{Rounded}
 use Rattle.lexical_read_float.specs.declared.round.Rounded.the-variants.{Bits, TooLarge}
-use Rattle.lexical_read_float.specs.Kept.{full}
-
--- where any bits are below, those kept are full
-abbrev pub IsFull : Kept → Type 0
-IsFull k = 0 < k .below → full ≤ k .bits
 
 -- document 01's answer for each case of `Rounded`; 11 too large
 abbrev pub ofRounded : Format → Rounded → Answer Float

@@ -1,4 +1,4 @@
-// The digits in a text from a place on: where they end, and the number that they spell. Each text is gone through once.
+// The digits in a text from a place on: where they end, and the number that they spell. No byte is looked at again but the one at which a loop stops.
 ghost use mathlib.Core.Path.{_≡_};
 ghost use mathlib.Core.Bool.{_&&_};
 ghost use Prim.Native.Nat.{_*_, _≤_, min};

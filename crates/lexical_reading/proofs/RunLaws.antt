@@ -46,3 +46,8 @@ is-run radix (x ∷ xs) = go (digitIn radix x) refl (is-run radix xs)
     go (some d) e r =
         let k = in-digit radix x d e in
         record { digits = (k .1, r .digits); ends = r .ends; splits = ap₂ {A = ℕ} {B = List ℕ} (λ a l. a ∷ l) (k .0) (r .splits) }
+
+-- digits behind digits
+pub digits-append : (radix : ℕ) (s t : List ℕ) → AreDigits radix s → AreDigits radix t → AreDigits radix (s ++ t)
+digits-append radix [] t p q = q
+digits-append radix (d ∷ s) t p q = (p .0, digits-append radix s t (p .1) q)

@@ -25,13 +25,10 @@ use Rattle.lexical_text.specs.Text.{least, trim, layoutOf, digitsSoFar}
 use Rattle.lexical_reading.specs.Shape.{Grammar, Tail, absent, Some, TailFits, FractionFits, WellFormed}
 use Rattle.lexical_reading.specs.Parse.{withTail}
 use Rattle.lexical_reading.specs.Read.{grammarOf}
+use Rattle.lexical_reading.proofs.RunLaws.{digits-append}
 use Rattle.lexical_rewriting.proofs.TextShape.{noughts, tailOf, pad, scientificShape, negativeShape, positiveShape, shapeIn, shapeOfText}
 
 -- ---- lists of digits
-digits-append : (r : ℕ) (s t : List ℕ) → AreDigits r s → AreDigits r t → AreDigits r (s ++ t)
-digits-append r [] t h k = k
-digits-append r (d ∷ s) t h k = (h .0, digits-append r s t (h .1) k)
-
 digits-take : (r n : ℕ) (s : List ℕ) → AreDigits r s → AreDigits r (take n s)
 digits-take r zero s h = tt
 digits-take r (suc n) [] h = tt

@@ -1,18 +1,19 @@
 -- `lexical_read_float::bits::value_bits` meets its contract: the numbers of a text make the numerator and the denominator of its value. Assumes nothing.
 use Prim.Native.Nat.{_*_, _≤_}
 use mathlib.Core.Path.{_∙_}
+use native.Mathlib.Nat.{mul-le-mul}
 use native.Mathlib.Omega.{arith}
 use borrow.Author.Needs.{needs}
 use Rattle.lexical_float.specs.Encoding.{formatOf}
-use Rattle.lexical_read_float.proofs.BitsLaws.{product-le, refused-ten, value-divided, value-multiplied, kept-holds}
+use Rattle.lexical_read_float.proofs.BitsLaws.{refused-ten, value-divided, value-multiplied, kept-holds}
 use Rattle.lexical_read_float.proofs.bits.value_bits.Statement.{statement}
 use Rattle.lexical_read_float.proofs.bits.value_bits.Tie as tie
 
 places-small : (c : tie.Start) → c .args .row .b * c .args .number .fraction ≤ 5 * 4096
-places-small c = product-le _ _ 5 4096 (c .pre .2) (c .pre .0 .few-digits)
+places-small c = mul-le-mul (c .pre .2) (c .pre .0 .few-digits)
 
 power-small : (c : tie.Else1) → c .before .before .before .args .row .c * c .before .before .before .args .number .exponent .magnitude ≤ 5 * 32767
-power-small c = product-le _ _ 5 32767 (c .before .before .before .pre .3) (c .if1 .left)
+power-small c = mul-le-mul (c .before .before .before .pre .3) (c .if1 .left)
 
 returns : tie.Need-returns
 returns c = (λ t power s are is. let a = c .before .before .before .args in refused-ten _ (a .row) power t s (a .number) is (c .if1 .taken), tt)

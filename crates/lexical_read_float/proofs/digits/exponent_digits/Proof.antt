@@ -2,11 +2,12 @@
 use Prim.Native.Nat.{_+_, _-_, _*_, _≤_, min}
 use mathlib.Core.List.{[], _∷_}
 use mathlib.Core.Path.{_≡_, refl}
+use native.Mathlib.Nat.{mul-le-mul}
 use native.Mathlib.Omega.{arith}
 use borrow.Author.Needs.{needs}
 use lib.ListN.{length}
 use Rattle.lexical_util.specs.Digit.{readOn, digitsValue}
-use Rattle.lexical_read_float.proofs.DigitRunLaws.{digit-below, digit-above, from-more, from-stop, from-end, end-here, end-on, sum-done, sum-on, product-small}
+use Rattle.lexical_read_float.proofs.DigitRunLaws.{digit-below, digit-above, from-more, from-stop, from-end, end-here, end-on, sum-done, sum-on}
 use Rattle.lexical_read_float.specs.Digits.{digitsFrom, endFrom}
 use Rattle.lexical_read_float.proofs.digits.exponent_digits.Tie as tie
 use Rattle.lexical_read_float.proofs.digits.exponent_digits.Statement.{statement}
@@ -27,7 +28,7 @@ stopped : (c : tie.At-loop Inv-loop μ-loop) → digitsFrom (c .before .before .
 stopped c e = let v = c .loop .inv in (end-here _ _ _ _ (v .2) e, sum-done _ _ _ _ (v .3) e (v .1), v .0)
 
 product : (c : tie.At-loop Inv-loop μ-loop) → c .loop .magnitude * c .before .before .args .radix ≤ 1048576
-product c = product-small (c .loop .magnitude) (c .before .before .args .radix) (c .loop .inv .1) (c .before .before .pre .2)
+product c = mul-le-mul (c .loop .inv .1) (c .before .before .pre .2)
 
 loop-holds : tie.Need-loop-holds Inv-loop μ-loop
 loop-holds c = (omega arith, omega arith, refl, refl)

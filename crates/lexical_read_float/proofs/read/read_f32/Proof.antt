@@ -4,8 +4,9 @@ use mathlib.Core.Path.{subst}
 use native.Mathlib.Omega.{arith}
 use borrow.Author.Needs.{needs}
 use lib.Ieee.{binary32}
+use Rattle.lexical_float.proofs.PartsLaws.{tested-bits}
 use Rattle.lexical_round.specs.Pattern.{infinity}
-use Rattle.lexical_read_float.proofs.TextLaws.{said, no-nan}
+use Rattle.lexical_read_float.proofs.TextLaws.{said}
 use Rattle.lexical_read_float.specs.Bits.{AreFinite}
 use Rattle.lexical_read_float.proofs.read.read_f32.Tie as tie
 use Rattle.lexical_read_float.proofs.read.read_f32.Statement.{statement}
@@ -23,7 +24,7 @@ cast-t9 : tie.Need-cast-t9
 cast-t9 c = omega (arith, finite (c .before))
 
 float-from-bits-t10 : tie.Need-float-from-bits-t10
-float-from-bits-t10 c = no-nan binary32 _ (finite (c .before))
+float-from-bits-t10 c = tested-bits binary32 _ (omega (arith, finite (c .before)))
 
 enum-known-refusal : tie.Need-enum-known-refusal
 enum-known-refusal c = search needs

@@ -1,10 +1,12 @@
 -- `lexical_read_float::read::read_f64` meets its contract: its bits are those of the float that the definition reads. Assumes nothing.
 use Prim.Native.Nat.{_<_}
 use mathlib.Core.Path.{subst}
+use native.Mathlib.Omega.{arith}
 use borrow.Author.Needs.{needs}
 use lib.Ieee.{binary64}
+use Rattle.lexical_float.proofs.PartsLaws.{tested-bits}
 use Rattle.lexical_round.specs.Pattern.{infinity}
-use Rattle.lexical_read_float.proofs.TextLaws.{said, no-nan}
+use Rattle.lexical_read_float.proofs.TextLaws.{said}
 use Rattle.lexical_read_float.specs.Bits.{AreFinite}
 use Rattle.lexical_read_float.proofs.read.read_f64.Tie as tie
 use Rattle.lexical_read_float.proofs.read.read_f64.Statement.{statement}
@@ -19,7 +21,7 @@ enum-known-bits : tie.Need-enum-known-bits
 enum-known-bits c = search needs
 
 float-from-bits-t9 : tie.Need-float-from-bits-t9
-float-from-bits-t9 c = no-nan binary64 _ (finite (c .before))
+float-from-bits-t9 c = tested-bits binary64 _ (omega (arith, finite (c .before)))
 
 enum-known-refusal : tie.Need-enum-known-refusal
 enum-known-refusal c = search needs
