@@ -90,7 +90,7 @@ pub record Readable (F : NumberFormat) (o : Options) (row : Pair) : Type 0 where
   pub mark-off : isDigit (F .«mantissa_radix») (o .exponent) ≡ false
   pub differ : eqb (o .«decimal_point») (o .exponent) ≡ false
 
-neither : (a b : Bool) → (a || b) ≡ false → (a ≡ false) × (b ≡ false)
+pub neither : (a b : Bool) → (a || b) ≡ false → (a ≡ false) × (b ≡ false)
 neither true b e = (e, absurd (let z : _≡_ {A = ℕ} 0 1 = cc in omega arith))
 neither false b e = (refl, e)
 

@@ -1,0 +1,10 @@
+pub mod WordLaws
+pub mod BeforeLaws
+pub mod NumberLaws
+pub mod TextLaws
+pub mod FormatLaws
+pub mod RowLaws
+pub mod TableLaws
+pub mod WayBackLaws
+pub mod LengthLaws
+pub mod Worked

@@ -1,0 +1,87 @@
+-- No byte below 33, a space or an LF say, stands in a text that was written: point and mark are checked, and digits and signs lie above. Assumes nothing.
+use Prim.Native.Nat.{ℕ, _+_, _≤_, _<_}
+use mathlib.Core.Path.{_≡_, refl, subst}
+use mathlib.Core.Bool.{Bool, true, false}
+use mathlib.Core.List.{List, [], _∷_, _++_, map}
+use mathlib.Core.Option.{Option, none, some}
+use native.Mathlib.Omega.{arith}
+use borrow.Author.Tests.{ltb-true, ltb-false}
+use lib.Dec.{ltb}
+use lib.Ieee.{Float}
+use Rattle.lexical_util.specs.Answer.{done}
+use Rattle.lexical_util.specs.Digit.{digitByte}
+use Rattle.lexical_util.proofs.AnswerLaws.{refused-done, passed}
+use Rattle.lexical_util.proofs.DigitLaws.{byte-figure, byte-capital}
+use Rattle.lexical_format.specs.declared.format.NumberFormat.{NumberFormat}
+use Rattle.lexical_format.specs.declared.format.Pair.{Pair}
+use Rattle.lexical_format.specs.declared.options.Options.{Options}
+use Rattle.lexical_format.specs.Format.{badByte, badBytes, readingChecks, checkedPair, pairOf, readingFormat}
+use Rattle.lexical_format.proofs.FormatLaws.{neither}
+use Rattle.lexical_text.specs.Write.{writeText}
+use Rattle.lexical_reading.specs.Shape.{Grammar, Sign, unsigned, plus, minus, Tail, absent, exponent, Shape, signBytes, tailBytes, fractionBytes, print}
+use Rattle.lexical_reading.specs.Read.{grammarOf}
+use Rattle.lexical_rewriting.proofs.WrittenLaws.{written-is-shaped}
+use Rattle.outage.proofs.BeforeLaws.{Lacks, lacks-append}
+
+-- ---- point and mark
+good-byte : (radix x : ℕ) → badByte radix x ≡ false → 33 ≤ x
+unfolding badByte
+good-byte radix x e = ltb-false x 33 (neither (ltb x 33) _ e .0)
+
+pub record Visible (o : Options) : Type 0 where
+  pub point : 33 ≤ o .«decimal_point»
+  pub mark : 33 ≤ o .exponent
+
+pub visible : (F : NumberFormat) (o : Options) (row : Pair) → readingFormat F o ≡ done row → Visible o
+unfolding readingFormat badBytes
+visible F o row e = go (pairOf F) e
+  where
+    go : (p : Option Pair) → checkedPair (readingChecks F o) p ≡ done row → Visible o
+    go none e = absurd (refused-done 1 0 row e)
+    go (some found) e =
+        let k = passed (readingChecks F o) found row e in
+        let p = neither (badByte (F .«mantissa_radix») (o .«decimal_point»)) _ (k .0 .1 .0) in
+        let m = neither (badByte (F .«mantissa_radix») (o .exponent)) _ (p .1) in
+        record {
+          point = good-byte (F .«mantissa_radix») (o .«decimal_point») (p .0);
+          mark = good-byte (F .«mantissa_radix») (o .exponent) (m .0);
+        }
+
+-- ---- the bytes of a shape
+digit-above : (d : ℕ) → 48 ≤ digitByte d
+digit-above d = go (ltb d 10) refl
+  where
+    go : (b : Bool) → ltb d 10 ≡ b → 48 ≤ digitByte d
+    go true e = omega (arith, byte-figure d (ltb-true d 10 e))
+    go false e = omega (arith, byte-capital d (ltb-false d 10 e))
+
+module _ (b : ℕ) (low : b < 33) where
+  pub digits-lack : (ds : List ℕ) → Lacks b (map digitByte ds)
+  digits-lack [] = tt
+  digits-lack (d ∷ ds) = (λ e. omega (arith, low, digit-above d, e), digits-lack ds)
+
+  sign-lacks : (s : Sign) → Lacks b (signBytes s)
+  sign-lacks unsigned = tt
+  sign-lacks plus = (λ e. omega (arith, low, e), tt)
+  sign-lacks minus = (λ e. omega (arith, low, e), tt)
+
+  module _ (G : Grammar) (point : 33 ≤ G .point) (mark : 33 ≤ G .mark) where
+    tail-lacks : (t : Tail) → Lacks b (tailBytes G t)
+    tail-lacks absent = tt
+    tail-lacks (exponent s ds) = (λ e. omega (arith, low, mark, e), lacks-append b (signBytes s) (map digitByte ds) (sign-lacks s) (digits-lack ds))
+
+    fraction-lacks : (dot : Bool) (ds : List ℕ) → Lacks b (fractionBytes G dot ds)
+    fraction-lacks true ds = (λ e. omega (arith, low, point, e), digits-lack ds)
+    fraction-lacks false ds = tt
+
+    print-lacks : (s : Shape) → Lacks b (print G s)
+    unfolding print
+    print-lacks s =
+        lacks-append b (map digitByte (s .whole)) (fractionBytes G (s .dot) (s .fraction) ++ tailBytes G (s .tail)) (digits-lack (s .whole))
+        (lacks-append b (fractionBytes G (s .dot) (s .fraction)) (tailBytes G (s .tail)) (fraction-lacks (s .dot) (s .fraction)) (tail-lacks (s .tail)))
+
+pub text-lacks : (b : ℕ) → b < 33 → (F : NumberFormat) (o : Options) (row : Pair) (x : Float) (t : List ℕ) → readingFormat F o ≡ done row → writeText F o x ≡ done t → Lacks b t
+text-lacks b low F o row x t r e =
+    let shaped = written-is-shaped F o x t e in
+    let seen = visible F o row r in
+    subst (Lacks b) (shaped .printed) (print-lacks b low (grammarOf F o) (seen .point) (seen .mark) (shaped .shape))
