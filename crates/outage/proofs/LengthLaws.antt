@@ -1,11 +1,13 @@
 -- No sheet passes 1,820,804 bytes: 400 rows of two texts of at most 2,275 bytes each, a space and an LF, behind a count line of at most four. Assumes nothing.
-use Prim.Native.Nat.{ℕ, suc, _+_, _*_, _^_, _≤_, _<_}
+use Prim.Native.Nat.{ℕ, suc, _+_, _*_, _≤_}
 use mathlib.Core.Path.{_≡_, refl, sym, ap, _∙_}
+use mathlib.Core.Bool.{Bool, true, false, cond}
 use mathlib.Core.List.{List, [], _∷_, _++_}
 use native.Mathlib.Omega.{arith}
+use lib.Dec.{leb}
 use lib.ListN.{length, length-append}
 use lib.Ieee.{binary64}
-use Rattle.lexical_util.specs.Answer.{done}
+use Rattle.lexical_util.specs.Answer.{Answer, done, refused, written}
 use Rattle.lexical_util.specs.Digit.{All}
 use Rattle.lexical_util.proofs.AnswerLaws.{done-same}
 use Rattle.lexical_digits.specs.Digits.{numeral}
@@ -16,9 +18,9 @@ use Rattle.lexical_format.specs.declared.options.Options.{Options}
 use Rattle.lexical_text.proofs.WriteLaws.{longest-text}
 use Rattle.outage.specs.declared.window.Window.{Window}
 use Rattle.outage.specs.Sheet.{rowsText}
-use Rattle.outage.specs.Calls.{tableSheet}
+use Rattle.outage.specs.Calls.{tableSheet, LongestSheet}
 use Rattle.outage.proofs.FormatLaws.{Taken, taken}
-use Rattle.outage.proofs.RowLaws.{Sound, Texts, texts, Rows, rows}
+use Rattle.outage.proofs.RowLaws.{Sound, Texts, texts, rows}
 use Rattle.outage.proofs.TableLaws.{header, rows-count, rows-sound}
 use Rattle.outage.proofs.WayBackLaws.{printed}
 
@@ -49,3 +51,14 @@ sheet-short F o t text e =
     let size : length text ≡ length (numeral 10 (length ws)) + suc (length (k .rows)) = ap length (k .is-text) ∙ length-append (numeral 10 (length ws)) (10 ∷ k .rows) in
     let count : length (numeral 10 (length ws)) ≤ 3 = rw (length-numeral 10 (length ws)) (count-le 10 (omega arith) 2 (length ws) (omega (arith, h .few))) in
     omega (arith, size, count, h .few, rows-short F o (k .row) (taken F o (k .row) (k .is-format)) ws (rows-sound t n 0 n ws (k .are-windows)) (k .rows) (k .are-rows))
+
+pub longest-sheet : (F : NumberFormat) (o : Options) (t out : List ℕ) → LongestSheet (written (tableSheet F o t) out)
+longest-sheet F o t out = go (tableSheet F o t) refl
+  where
+    fits : (text : List ℕ) → length text ≤ 1820804 → (b : Bool) → LongestSheet (cond b (done (length text)) (refused 8 0))
+    fits text h true = h
+    fits text h false = tt
+
+    go : (a : Answer (List ℕ)) → tableSheet F o t ≡ a → LongestSheet (written a out)
+    go (refused n p) e = tt
+    go (done text) e = fits text (sheet-short F o t text e) (leb (length text) (length out))

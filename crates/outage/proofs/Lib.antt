@@ -7,4 +7,6 @@ pub mod RowLaws
 pub mod TableLaws
 pub mod WayBackLaws
 pub mod LengthLaws
+pub mod StoredLaws
+pub mod RoomLaws
 pub mod Worked

@@ -1,5 +1,5 @@
 -- The numeral of a number in radix 10 is read back as the number. Assumes nothing.
-use Prim.Native.Nat.{ℕ, suc, _+_, _*_, _/_, _%_, _≤_, _<_}
+use Prim.Native.Nat.{ℕ, _+_, _*_, _/_, _%_, _≤_, _<_}
 use mathlib.Core.Path.{_≡_, refl, sym, ap, _∙_}
 use mathlib.Core.Bool.{Bool, true, false}
 use mathlib.Core.List.{List, [], _∷_, _++_, append-assoc, append-nil, map}
@@ -33,13 +33,13 @@ read-on limit = by-quotient 10 (omega arith) (λ x. x ≤ limit → (xs : List �
         rw (numeral-ge 10 x (omega arith) h, append-assoc) (ih (omega arith) (digitByte (x % 10) ∷ xs) ∙ on-digit limit (x / 10) (x % 10) xs (omega arith) (omega arith) ∙ rw e)
 
 -- ---- no "0" in front of others
-one : (limit : ℕ) (l : List ℕ) → length l ≡ 1 → numberIn limit l ≡ numberOn limit 0 l
+pub one : (limit : ℕ) (l : List ℕ) → length l ≡ 1 → numberIn limit l ≡ numberOn limit 0 l
 unfolding numberIn
 one limit [] h = absurd (omega arith)
 one limit (x ∷ []) h = refl
 one limit (x ∷ y ∷ ys) h = absurd (omega arith)
 
-no-zero : (limit : ℕ) (l : List ℕ) → 0 < length l → (getD l 0 0 ≡ 48 → ⊥) → numberIn limit l ≡ numberOn limit 0 l
+pub no-zero : (limit : ℕ) (l : List ℕ) → 0 < length l → (getD l 0 0 ≡ 48 → ⊥) → numberIn limit l ≡ numberOn limit 0 l
 unfolding numberIn
 no-zero limit [] h k = absurd (omega arith)
 no-zero limit (x ∷ []) h k = refl

@@ -1,9 +1,9 @@
 -- A row's text is a line that gives the row back, and the rows' text gives the rows. Assumes nothing.
-use Prim.Native.Nat.{ℕ, zero, suc, _+_, _≤_, _<_}
+use Prim.Native.Nat.{ℕ, suc, _+_, _<_}
 use mathlib.Core.Path.{_≡_, refl, sym, ap, _∙_}
-use mathlib.Core.Bool.{Bool, true, false}
+use mathlib.Core.Bool.{false}
 use mathlib.Core.List.{List, [], _∷_, _++_, append-assoc}
-use mathlib.Core.Option.{Option, none, some}
+use mathlib.Core.Option.{Option, some}
 use native.Mathlib.Omega.{arith}
 use borrow.Author.Tests.{eq-eqb, ne-eqb}
 use lib.Dec.{T}
@@ -20,7 +20,7 @@ use Rattle.lexical_text.specs.Write.{writeText}
 use Rattle.lexical_reading.specs.Read.{readFloat}
 use Rattle.lexical_rewriting.proofs.WrittenLaws.{written-is-read-back}
 use Rattle.outage.specs.declared.window.Window.{Window}
-use Rattle.outage.specs.Window.{columns, judged, from}
+use Rattle.outage.specs.Window.{columns}
 use Rattle.outage.specs.Sheet.{before, fieldsText, rowsText, fieldsWindow, lineWindow, rowIn, linesFrom}
 use Rattle.outage.proofs.BeforeLaws.{Lacks, before-at, before-all, lacks-append}
 use Rattle.outage.proofs.TextLaws.{text-lacks}

@@ -1,22 +1,22 @@
 -- What a table that passed holds: its header, its rows, and the table of its windows, which is itself. Assumes nothing.
 use Prim.Native.Nat.{ℕ, zero, suc, _+_, _*_, _^_, _≤_, _<_}
 use mathlib.Core.Path.{_≡_, refl, sym, ap, _∙_, subst}
-use mathlib.Core.Bool.{Bool, true, false, not}
-use mathlib.Core.List.{List, [], _∷_, _++_, append-assoc, append-nil}
+use mathlib.Core.Bool.{true, false, not}
+use mathlib.Core.List.{List, [], _∷_, _++_, append-nil}
 use native.Mathlib.Omega.{arith}
 use borrow.Author.Tests.{not-false, eqb-true, ltb-false}
 use lib.Dec.{T, ltb, eqb}
 use lib.ListN.{length, take, drop, length-drop, take-append-drop}
 use lib.Seq.{take-add, drop-drop, take-all}
-use lib.Ieee.{Float, nan, inf, fin, binary64, ofBits, toBits, isNan, lt}
+use lib.Ieee.{Float, nan, inf, fin, binary64, toBits, isNan, lt}
 use lib.Ieee.Bits.{ofBits-fits, toBits-ofBits}
-use Rattle.lexical_util.specs.Answer.{Answer, done, refused, andThen, checked}
+use Rattle.lexical_util.specs.Answer.{Answer, done, refused, andThen}
 use Rattle.lexical_util.specs.Digit.{All}
 use Rattle.lexical_util.proofs.AnswerLaws.{refused-done, done-same, passed}
 use Rattle.outage.specs.declared.window.Window.{Window}
 use Rattle.outage.specs.Words.{ofBytes, toBytes, wordAt}
 use Rattle.outage.specs.Window.{Column, columns, isPlain, floatChecks, windowChecks, tableRow, from}
-use Rattle.outage.specs.Table.{tableSize, columnBytes, tableOf, tableCount, floatAt, windowAt, rowAbove, rowAt, rowsFrom, tableWindows}
+use Rattle.outage.specs.Table.{tableSize, columnBytes, tableOf, tableCount, floatAt, windowAt, rowAbove, rowAt, rowsFrom}
 use Rattle.outage.proofs.WordLaws.{AreBytes, bytes-lt, bytes-of, all-take, all-drop, part-length}
 use Rattle.outage.proofs.RowLaws.{Sound}
 

@@ -2,10 +2,10 @@
 use Prim.Native.Nat.{ℕ, suc, _+_, _≤_}
 use mathlib.Core.Path.{_≡_, refl, sym, ap, _∙_}
 use mathlib.Core.Bool.{Bool, true, false, cond}
-use mathlib.Core.List.{List, [], _∷_, _++_}
+use mathlib.Core.List.{List, _∷_, _++_}
 use mathlib.Core.Option.{none}
 use native.Mathlib.Omega.{arith}
-use borrow.Author.Tests.{le-leb, ne-eqb, le-ltb, leb-true}
+use borrow.Author.Tests.{le-leb, ne-eqb, le-ltb}
 use lib.Dec.{leb}
 use lib.ListN.{length, take, drop, length-append}
 use lib.Seq.{drop-append-add, take-append-seam}
@@ -17,15 +17,15 @@ use Rattle.lexical_format.specs.declared.format.Pair.{Pair}
 use Rattle.lexical_format.specs.declared.options.Options.{Options}
 use Rattle.outage.specs.declared.window.Window.{Window}
 use Rattle.outage.specs.Table.{tableSize, tableOf, tableCount, rowsFrom, tableWindows}
-use Rattle.outage.specs.Sheet.{before, rowsText, sheetOf, sheetCount, sheetRows}
-use Rattle.outage.specs.Calls.{sheetFormat, tableSheet, sheetTable, WayBack}
+use Rattle.outage.specs.Sheet.{before, rowsText, sheetOf, sheetCount}
+use Rattle.outage.specs.Calls.{sheetFormat, tableSheet, countedTable, sheetTable, WayBack}
 use Rattle.outage.proofs.WordLaws.{AreBytes}
 use Rattle.outage.proofs.BeforeLaws.{before-at}
 use Rattle.outage.proofs.NumberLaws.{number-numeral}
 use Rattle.outage.proofs.TextLaws.{digits-lack}
-use Rattle.outage.proofs.FormatLaws.{Taken, taken}
+use Rattle.outage.proofs.FormatLaws.{taken}
 use Rattle.outage.proofs.RowLaws.{rows-back}
-use Rattle.outage.proofs.TableLaws.{Header, header, rows-count, rows-sound, table-back}
+use Rattle.outage.proofs.TableLaws.{header, rows-count, rows-sound, table-back}
 
 -- ---- a table that has a sheet
 pub record Printed (F : NumberFormat) (o : Options) (t text : List ℕ) : Type 0 where
@@ -84,7 +84,7 @@ module _ (n : ℕ) (rows : List ℕ) where
       rw (count-line, ne-eqb (length (numeral 10 n)) (length (numeral 10 n ++ (10 ∷ rows))) (omega arith), number-numeral 400 n h)
 
 pub table-again : (F : NumberFormat) (o : Options) (t text : List ℕ) → AreBytes t → tableSheet F o t ≡ done text → (room : ℕ) → length t ≤ room → sheetTable F o text room ≡ done t
-unfolding sheetTable
+unfolding sheetTable countedTable
 table-again F o t text bytes e room enough =
     let k = printed F o t text e in
     let ws = k .windows in

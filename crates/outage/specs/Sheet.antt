@@ -3,9 +3,9 @@ use Prim.Native.Nat.{ℕ, zero, suc, _+_, _*_}
 use mathlib.Core.Bool.{Bool, not, cond}
 use mathlib.Core.List.{List, [], _∷_, _++_}
 use mathlib.Core.Option.{Option, none, some}
-use lib.Dec.{leb, ltb, eqb}
+use lib.Dec.{leb, eqb}
 use lib.ListN.{length, drop}
-use lib.Ieee.{Float, binary64}
+use lib.Ieee.{binary64}
 use Rattle.lexical_util.specs.Answer.{Answer, done, refused, andThen, checked}
 use Rattle.lexical_util.specs.Digit.{digitIn}
 use Rattle.lexical_digits.specs.Digits.{numeral}

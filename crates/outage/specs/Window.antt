@@ -1,6 +1,6 @@
 -- A window's columns and its checks: document 01, "Outage table and sheet" and "Table to sheet". Definitions only.
 use Prim.Native.Nat.{ℕ, _+_}
-use mathlib.Core.Bool.{Bool, true, false, not}
+use mathlib.Core.Bool.{Bool, false, not}
 use mathlib.Core.List.{List, [], _∷_, _++_}
 use mathlib.Core.Option.{Option}
 use lib.Ieee.{Float, nan, inf, fin, lt}
