@@ -1,0 +1,6 @@
+pub mod PlainLaws
+pub mod FormatLaws
+pub mod TextLaws
+pub mod TableLaws
+pub mod RowsLaws
+pub mod SheetLaws

@@ -1,0 +1,47 @@
+-- The text of a float of a table. Assumes nothing.
+use Prim.Native.Nat.{ℕ, _+_, _≤_}
+use mathlib.Core.Path.{_≡_, refl, ap, _∙_}
+use mathlib.Core.Bool.{true, false}
+use mathlib.Core.List.{List}
+use native.Mathlib.Omega.{arith}
+use lib.Dec.{T}
+use lib.ListN.{length, length-append}
+use lib.Ieee.{Float, nan, inf, fin, binary64, fits}
+use Rattle.lexical_util.specs.Answer.{Answer, done, refused, written}
+use Rattle.lexical_util.proofs.AnswerLaws.{text-fits, done-same, refused-done}
+use Rattle.lexical_format.specs.declared.format.NumberFormat.{NumberFormat}
+use Rattle.lexical_format.specs.declared.format.Pair.{Pair}
+use Rattle.lexical_format.specs.declared.options.Options.{Options}
+use Rattle.lexical_format.specs.Format.{writingFormat}
+use Rattle.lexical_text.specs.Write.{floatText, writeText}
+use Rattle.lexical_text.proofs.WriteLaws.{longest-text}
+use Rattle.outage.specs.declared.window.Window.{Window}
+use Rattle.outage.specs.Window.{isPlain}
+use Rattle.outage_table.specs.Text.{textOf, rowOf, HasText}
+
+module _ (F : NumberFormat) (o : Options) where
+  -- a float that passed has a text
+  pub plain-text : (row : Pair) → writingFormat F o ≡ done row → (x : Float) → isPlain x ≡ true → HasText F o x
+  unfolding writeText floatText textOf
+  plain-text row w nan p = absurd (let z : _≡_ {A = ℕ} 0 1 = cc in omega arith)
+  plain-text row w (inf s) p = absurd (let z : _≡_ {A = ℕ} 0 1 = cc in omega arith)
+  plain-text row w (fin true m e) p = absurd (let z : _≡_ {A = ℕ} 0 1 = cc in omega arith)
+  plain-text row w (fin false m e) p = rw w
+
+  pub text-short : (x : Float) → T (fits binary64 x) → HasText F o x → length (textOf F o x) ≤ 2275
+  text-short x h e = longest-text binary64 F o x (textOf F o x) h e
+
+  -- ---- what the writer answers where a text has room
+  module _ (x : Float) (d : List ℕ) (has : HasText F o x) (room : length (textOf F o x) ≤ length d) where
+    fitted : written (writeText F o x) d ≡ done (length (textOf F o x))
+    fitted = ap (λ (a : Answer (List ℕ)). written a d) has ∙ text-fits (textOf F o x) d (length (textOf F o x)) refl room .0
+
+    pub text-counted : (n : ℕ) → done n ≡ written (writeText F o x) d → n ≡ length (textOf F o x)
+    text-counted n w = done-same n (length (textOf F o x)) (w ∙ fitted)
+
+    pub text-served : (n p : ℕ) → refused n p ≡ written (writeText F o x) d → ⊥
+    text-served n p w = refused-done n p (length (textOf F o x)) (w ∙ fitted)
+
+  pub row-length : (w : Window) → length (rowOf F o w) ≡ length (textOf F o (w .start)) + length (textOf F o (w .end)) + 2
+  unfolding rowOf
+  row-length w = simp length-append (omega arith)

@@ -1,0 +1,69 @@
+// What a table holds: its count, and its rows.
+ghost use mathlib.Core.Path.{_≡_};
+ghost use Prim.Native.Nat.{_≤_, _<_};
+ghost use lib.ListN.{length};
+ghost use Rattle.outage.specs.Window.{ofCheckedWindow};
+ghost use Rattle.outage.specs.Table.{tableSize, tableCount, rowAt};
+ghost use Rattle.outage_table.specs.Count.{ofCount};
+use crate::word::word_at;
+use lexical_util::Refusal;
+use outage::CheckedWindow;
+use outage::Window;
+
+// The count of a table's rows, or 13.
+pub(crate) enum Count {
+    Rows(usize),
+    Wrong,
+}
+
+// The header, and a table as long as it says.
+pub(crate) fn table_count(table: &[u8]) -> Count
+    ensures { λ r. ⌜ ofCount r ≡ tableCount (now (table .entry)) ⌝ }
+{
+    if table.len() < 8 {
+        return Count::Wrong;
+    }
+    let n = word_at(table, 0, 4);
+    if n > 400 {
+        return Count::Wrong;
+    }
+    if word_at(table, 4, 4) != 8 + 16 * n {
+        return Count::Wrong;
+    }
+    if table.len() as u64 != 8 + 16 * n {
+        return Count::Wrong;
+    }
+    Count::Rows(n as usize)
+}
+
+// Row i of n. Infinities, NaNs and set sign bits are the patterns from the infinity's on: 7 is decided before a float is made of the bits.
+pub(crate) fn row_at(table: &[u8], n: usize, i: usize) -> CheckedWindow
+    requires { ⌜ (i < n) × (n ≤ 400) × (length (now table) ≡ tableSize n) ⌝ }
+    ensures { λ r. ⌜ ofCheckedWindow r ≡ rowAt (now (table .entry)) n i ⌝ }
+{
+    let start = word_at(table, 8 + 8 * i, 8);
+    if start >= 0x7ff0_0000_0000_0000 {
+        return CheckedWindow::Refused(Refusal {
+            number: 7,
+            place: i,
+        });
+    }
+    let end = word_at(table, 8 + 8 * n + 8 * i, 8);
+    if end >= 0x7ff0_0000_0000_0000 {
+        return CheckedWindow::Refused(Refusal {
+            number: 7,
+            place: i,
+        });
+    }
+    let window = Window {
+        start: f64::from_bits(start),
+        end: f64::from_bits(end),
+    };
+    match outage::check_window(window) {
+        CheckedWindow::Passed(passed) => CheckedWindow::Passed(passed),
+        CheckedWindow::Refused(refusal) => CheckedWindow::Refused(Refusal {
+            number: refusal.number,
+            place: i,
+        }),
+    }
+}

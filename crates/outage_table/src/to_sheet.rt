@@ -1,0 +1,137 @@
+// Table to sheet: every row is checked and the sheet's length is known before its first byte is written.
+ghost use mathlib.Core.Path.{_≡_};
+ghost use mathlib.Core.List.{_∷_, _++_};
+ghost use Prim.Native.Nat.{ℕ, _+_, _≤_};
+ghost use lib.ListN.{length};
+ghost use Rattle.lexical_util.specs.Answer.{done, andThen, written, held, ofWritten};
+ghost use Rattle.lexical_digits.specs.Digits.{numeral};
+ghost use Rattle.lexical_write_float.specs.Code.{Puts};
+ghost use Rattle.outage.specs.Table.{tableSize, rowsFrom, tableWindows};
+ghost use Rattle.outage.specs.Sheet.{sheetOf};
+ghost use Rattle.outage.specs.Calls.{tableSheet, LongestSheet, WayBack};
+ghost use Rattle.outage_table.specs.Text.{found, rowsOf, Admitted};
+use crate::format::check_format;
+use crate::print::put_count;
+use crate::print::put_row;
+use crate::print::row_length;
+use crate::table::Count;
+use crate::table::row_at;
+use crate::table::table_count;
+use lexical_format::NumberFormat;
+use lexical_format::Options;
+use lexical_format::WritingCheck;
+use lexical_util::Refusal;
+use lexical_util::Written;
+use lexical_write_integer::digit_count;
+use outage::CheckedWindow;
+
+// The first pass: every row checked, and the length of all rows.
+fn rows_length(table: &[u8], n: usize, format: NumberFormat, options: Options) -> Written
+    requires { ⌜ Admitted format options × (n ≤ 400) × (length (now table) ≡ tableSize n) ⌝ }
+    ensures { λ r. ⌜ ofWritten r ≡ andThen (rowsFrom (now (table .entry)) n 0 n) (λ ws. done (length (rowsOf format options ws))) ⌝ }
+    ensures few { λ r. ⌜ ((m : ℕ) → ofWritten r ≡ done m → m ≤ 1820800) ⌝ }
+{
+    let mut scratch = [0u8; 2275];
+    let mut sum: usize = 0;
+    let mut i: usize = 0;
+    while i < n {
+        match row_at(table, n, i) {
+            CheckedWindow::Passed(window) => {
+                sum += row_length(window, format, options, &mut scratch);
+            }
+            CheckedWindow::Refused(refusal) => return Written::Refused(refusal),
+        }
+        i += 1;
+    }
+    Written::Length(sum)
+}
+
+// The second pass: the rows from a place on, where every row passed and they have room.
+fn put_rows(
+    table: &[u8],
+    n: usize,
+    sheet: &mut [u8],
+    from: usize,
+    format: NumberFormat,
+    options: Options,
+) -> usize
+    requires { ⌜ Admitted format options × (n ≤ 400) × (length (now table) ≡ tableSize n)
+        × (rowsFrom (now table) n 0 n ≡ done (found (rowsFrom (now table) n 0 n)))
+        × (from + length (rowsOf format options (found (rowsFrom (now table) n 0 n))) ≤ length (now sheet)) ⌝ }
+    ensures { λ r. ⌜ Puts (now (sheet .entry)) from (rowsOf format options (found (rowsFrom (now (table .entry)) n 0 n))) r (now (sheet .exit)) ⌝ }
+{
+    let mut at = from;
+    let mut i: usize = 0;
+    while i < n {
+        match row_at(table, n, i) {
+            CheckedWindow::Passed(window) => {
+                at = put_row(sheet, at, window, format, options);
+            }
+            CheckedWindow::Refused(_) => return at,
+        }
+        i += 1;
+    }
+    at
+}
+
+// A sheet whose rows have passed and are so long together: 8, or the count line and the rows.
+fn put_sheet(
+    table: &[u8],
+    n: usize,
+    rows: usize,
+    sheet: &mut [u8],
+    format: NumberFormat,
+    options: Options,
+) -> Written
+    requires { ⌜ Admitted format options × (n ≤ 400) × (length (now table) ≡ tableSize n)
+        × (rowsFrom (now table) n 0 n ≡ done (found (rowsFrom (now table) n 0 n)))
+        × (rows ≡ length (rowsOf format options (found (rowsFrom (now table) n 0 n)))) × (rows ≤ 1820800) ⌝ }
+    ensures { λ r. ⌜ ofWritten r ≡ written (done (numeral 10 n ++ (10 ∷ rowsOf format options (found (rowsFrom (now (table .entry)) n 0 n))))) (now (sheet .entry)) ⌝ }
+    ensures { λ _. ⌜ now (sheet .exit) ≡ held (done (numeral 10 n ++ (10 ∷ rowsOf format options (found (rowsFrom (now (table .entry)) n 0 n))))) (now (sheet .entry)) ⌝ }
+{
+    let digits = digit_count(n as u64, 10);
+    if sheet.len() < digits + 1 + rows {
+        return Written::Refused(Refusal {
+            number: 8,
+            place: 0,
+        });
+    }
+    let at = put_count(sheet, n);
+    Written::Length(put_rows(table, n, sheet, at, format, options))
+}
+
+// A table under a format that passed: 13, then by row, then 8.
+fn print_table(table: &[u8], format: NumberFormat, options: Options, sheet: &mut [u8]) -> Written
+    requires { ⌜ Admitted format options ⌝ }
+    ensures { λ r. ⌜ ofWritten r ≡ written (andThen (tableWindows (now (table .entry))) (sheetOf format options)) (now (sheet .entry)) ⌝ }
+    ensures { λ _. ⌜ now (sheet .exit) ≡ held (andThen (tableWindows (now (table .entry))) (sheetOf format options)) (now (sheet .entry)) ⌝ }
+{
+    let Count::Rows(n) = table_count(table) else {
+        return Written::Refused(Refusal {
+            number: 13,
+            place: 0,
+        });
+    };
+    match rows_length(table, n, format, options) {
+        Written::Length(rows) => put_sheet(table, n, rows, sheet, format, options),
+        Written::Refused(refusal) => Written::Refused(refusal),
+    }
+}
+
+// The sheet of a table. On a refusal the bytes lent are as they were.
+pub fn table_to_sheet(
+    table: &[u8],
+    format: NumberFormat,
+    options: Options,
+    sheet: &mut [u8],
+) -> Written
+    ensures { λ r. ⌜ ofWritten r ≡ written (tableSheet format options (now (table .entry))) (now (sheet .entry)) ⌝ }
+    ensures { λ _. ⌜ now (sheet .exit) ≡ held (tableSheet format options (now (table .entry))) (now (sheet .entry)) ⌝ }
+    ensures longest { λ r. ⌜ LongestSheet (ofWritten r) ⌝ }
+    ensures way_back { λ r. ⌜ WayBack format options (now (table .entry)) (ofWritten r) (now (sheet .exit)) ⌝ }
+{
+    match check_format(format, options) {
+        WritingCheck::Passed(_) => print_table(table, format, options, sheet),
+        WritingCheck::Refused(refusal) => Written::Refused(refusal),
+    }
+}
