@@ -1,0 +1,54 @@
+// A table's bytes, little endian.
+ghost use mathlib.Core.Path.{_≡_};
+ghost use mathlib.Core.List.{_++_};
+ghost use Prim.Native.Nat.{_+_, _≤_, _<_};
+ghost use lib.ListN.{length, drop};
+ghost use Rattle.lexical_write_float.specs.Code.{put};
+ghost use Rattle.outage.specs.Words.{toBytes};
+ghost use Rattle.outage.specs.Table.{tableSize};
+ghost use Rattle.outage_sheet.specs.Fill.{Stored, putWindow, putHeader};
+use outage::Window;
+
+// The lowest bytes of a number, so many of them, from a place on.
+fn put_word(table: &mut [u8], at: usize, value: u64, size: usize)
+    requires { ⌜ at + size ≤ length (now table) ⌝ }
+    ensures { λ _. ⌜ now (table .exit) ≡ put (now (table .entry)) at (toBytes size value) ⌝ }
+{
+    let mut rest = value;
+    let mut done: usize = 0;
+    while done < size {
+        table[at + done] = (rest % 256) as u8;
+        rest = rest / 256;
+        done += 1;
+    }
+}
+
+// The count, and the table's length.
+pub(crate) fn put_header(table: &mut [u8], n: usize)
+    requires { ⌜ (n ≤ 400) × (tableSize n ≤ length (now table)) ⌝ }
+    ensures { λ _. ⌜ now (table .exit) ≡ putHeader (now (table .entry)) n ⌝ }
+{
+    put_word(table, 0, n as u64, 4);
+    put_word(table, 4, (8 + 16 * n) as u64, 4);
+}
+
+// Row i of n: a start, and as far behind the starts an end.
+pub(crate) fn put_window(table: &mut [u8], n: usize, i: usize, window: Window)
+    requires { ⌜ (i < n) × (n ≤ 400) × (tableSize n ≤ length (now table)) × Stored window ⌝ }
+    ensures { λ _. ⌜ now (table .exit) ≡ putWindow (now (table .entry)) n i window ⌝ }
+{
+    put_word(table, 8 + 8 * i, f64::to_bits(window.start), 8);
+    put_word(table, 8 + 8 * n + 8 * i, f64::to_bits(window.end), 8);
+}
+
+// All bytes of one slice to the front of another.
+pub(crate) fn copy(source: &[u8], target: &mut [u8])
+    requires { ⌜ length (now source) ≤ length (now target) ⌝ }
+    ensures { λ _. ⌜ now (target .exit) ≡ now (source .entry) ++ drop (length (now (source .entry))) (now (target .entry)) ⌝ }
+{
+    let mut at: usize = 0;
+    while at < source.len() {
+        target[at] = source[at];
+        at += 1;
+    }
+}
