@@ -1,0 +1,139 @@
+-- What is shown of an answer, with room for it; and a sheet rewritten has the same rows. Assumes nothing.
+use Prim.Native.Nat.{ℕ, suc, _+_, _^_, _≤_, _<_}
+use mathlib.Core.Path.{_≡_, refl, sym, ap, _∙_}
+use mathlib.Core.Bool.{Bool, true, false, cond}
+use mathlib.Core.List.{List, _++_}
+use native.Mathlib.Nat.{le-trans}
+use native.Mathlib.Omega.{arith}
+use borrow.Author.Tests.{le-leb, lt-leb, le-ltb, lt-ltb}
+use lib.Dec.{leb, ltb}
+use lib.ListN.{length, take, drop, length-append}
+use lib.Seq.{take-append-seam}
+use Rattle.lexical_util.specs.Answer.{Answer, done, refused, andThen, written, held}
+use Rattle.lexical_util.proofs.AnswerLaws.{refused-done, done-same, text-fits}
+use Rattle.lexical_digits.specs.Digits.{numeral}
+use Rattle.lexical_digits.proofs.DigitsLaws.{length-numeral, count-le}
+use Rattle.lexical_write_float.specs.Code.{Puts}
+use Rattle.lexical_write_float.proofs.PutLaws.{put-front}
+use Rattle.lexical_rewriting.specs.declared.text_format.TextFormat.{TextFormat}
+use Rattle.outage.specs.Table.{tableSize}
+use Rattle.outage.specs.Calls.{tableSheet, sheetTable}
+use Rattle.outage.proofs.LengthLaws.{sheet-short}
+use Rattle.outage.proofs.RoomLaws.{room-enough}
+use Rattle.outage.proofs.StoredLaws.{Stored, stored}
+use Rattle.outage.proofs.WayBackLaws.{table-again}
+use Rattle.outage_console.specs.Screen.{refusalLine, reading, rewriting, shownLength, shownBytes, SameRows}
+use Rattle.outage_console.specs.Code.{putCount, putBytes}
+
+-- ---- a refusal's line
+number-short : (k x : ℕ) → x < 10 ^ (k + 1) → length (numeral 10 x) ≤ k + 1
+number-short k x h =
+    let e : k + 1 ≡ suc k = omega arith in
+    rw (length-numeral 10 x, e) (count-le 10 (omega arith) k x (rw e at h))
+
+pub line-length : (n p : ℕ) → length (refusalLine n p) ≡ 13 + length (numeral 10 n) + length (numeral 10 p)
+unfolding refusalLine
+line-length n p = simp length-append (omega arith)
+
+pub line-short : (n p : ℕ) → n < 4294967296 → p < 18446744073709551616 → (length (numeral 10 n) ≤ 10) × (length (numeral 10 p) ≤ 20)
+line-short n p h k = (number-short 9 n (omega arith), number-short 19 p (omega arith))
+
+-- ---- an answer in bytes enough for it
+abbrev pub Within : ℕ → Answer (List ℕ) → Type 0
+Within room asked = (t : List ℕ) → asked ≡ done t → length t ≤ room
+
+module _ (asked : Answer (List ℕ)) (out : List ℕ) (room : ℕ) where
+  pub shown : room ≤ length out → Within room asked → (putCount (written asked out) ≡ shownLength room asked out) × (putBytes (written asked out) (held asked out) ≡ shownBytes room asked out)
+  shown h within = go asked within
+    where
+      enough : leb room (length out) ≡ true
+      enough = le-leb room (length out) h
+
+      go : (a : Answer (List ℕ)) → Within room a → (putCount (written a out) ≡ shownLength room a out) × (putBytes (written a out) (held a out) ≡ shownBytes room a out)
+      go (done t) w =
+          let fits = text-fits t out (length t) refl (le-trans (w t refl) h) in
+          (rw (enough, fits .0), rw (enough, fits .0, fits .1))
+      go (refused n p) w = (rw enough, rw enough)
+
+  pub nothing : length out < room → (0 ≡ shownLength room asked out) × (out ≡ shownBytes room asked out)
+  nothing h = (rw (lt-leb room (length out) h), rw (lt-leb room (length out) h))
+
+  -- what such an answer tells of what was asked for
+  pub record Got (m : ℕ) : Type 0 where
+    pub bytes : List ℕ
+    pub is : asked ≡ done bytes
+    pub count : m ≡ length bytes
+    pub front : take m (held asked out) ≡ bytes
+
+  pub got : room ≤ length out → Within room asked → (m : ℕ) → written asked out ≡ done m → Got m
+  got h within m e = go asked refl e
+    where
+      go : (a : Answer (List ℕ)) → asked ≡ a → written a out ≡ done m → Got m
+      go (refused n p) q e = absurd (refused-done n p m e)
+      go (done t) q e =
+          let fits = text-fits t out (length t) refl (le-trans (within t q) h) in
+          let same : length t ≡ m = done-same (length t) m (sym (fits .0) ∙ e) in
+          record {
+            bytes = t;
+            is = q;
+            count = sym same;
+            front = ap (λ (a : Answer (List ℕ)). take m (held a out)) q ∙ ap (take m) (fits .1) ∙ ap (λ (k : ℕ). take k (t ++ drop (length t) out)) (sym same) ∙ take-append-seam t (drop (length t) out);
+          }
+
+  pub not-got : room ≤ length out → Within room asked → (n p : ℕ) → written asked out ≡ refused n p → asked ≡ refused n p
+  not-got h within n p e = go asked within e
+    where
+      go : (a : Answer (List ℕ)) → Within room a → written a out ≡ refused n p → a ≡ refused n p
+      go (refused m q) w e = cc
+      go (done t) w e = absurd (refused-done n p (length t) (sym e ∙ text-fits t out (length t) refl (le-trans (w t refl) h) .0))
+
+-- ---- a table of a sheet
+reading-stored : (F : TextFormat) (s t : List ℕ) → reading F s ≡ done t → Stored t
+unfolding reading
+reading-stored F s t e = go (ltb 3277604 (length s)) e
+  where
+    go : (b : Bool) → cond b (refused 15 3277604) (sheetTable (F .format) (F .options) s (tableSize 400)) ≡ done t → Stored t
+    go true e = absurd (refused-done 15 3277604 t e)
+    go false e = stored (F .format) (F .options) s (tableSize 400) t e
+
+pub reading-within : (F : TextFormat) (s : List ℕ) → Within 6408 (reading F s)
+reading-within F s t e = reading-stored F s t e .short
+
+pub reading-long : (F : TextFormat) (s : List ℕ) → 3277604 < length s → refused 15 3277604 ≡ reading F s
+unfolding reading
+reading-long F s h = rw (lt-ltb 3277604 (length s) h)
+
+pub reading-short : (F : TextFormat) (s : List ℕ) (room : ℕ) → length s ≤ 3277604 → tableSize 400 ≤ room → sheetTable (F .format) (F .options) s room ≡ reading F s
+unfolding reading
+reading-short F s room h k = rw (le-ltb 3277604 (length s) h) (room-enough (F .format) (F .options) s room k)
+
+-- ---- a sheet rewritten
+pub rewriting-done : (F G : TextFormat) (s t : List ℕ) → reading F s ≡ done t → rewriting F G s ≡ tableSheet (G .format) (G .options) t
+unfolding rewriting
+rewriting-done F G s t e = rw e
+
+pub rewriting-refused : (F G : TextFormat) (s : List ℕ) (n p : ℕ) → reading F s ≡ refused n p → rewriting F G s ≡ refused n p
+unfolding rewriting
+rewriting-refused F G s n p e = rw e
+
+pub same-rows : (F G : TextFormat) (s : List ℕ) → SameRows F G s
+unfolding rewriting
+same-rows F G s text e = go (reading F s) refl e
+  where
+    go : (a : Answer (List ℕ)) → reading F s ≡ a → andThen a (tableSheet (G .format) (G .options)) ≡ done text → reading G text ≡ a
+    go (refused n p) q e = absurd (refused-done n p text e)
+    go (done t) q e =
+        let k = reading-stored F s t q in
+        let short = sheet-short (G .format) (G .options) t text e in
+        sym (reading-short G text (tableSize 400) (omega arith) (omega arith)) ∙ table-again (G .format) (G .options) t text (k .are-bytes) e (tableSize 400) (k .short)
+
+-- ---- a refusal's line at the front
+pub put-line : (d out : List ℕ) (n p r : ℕ) → Puts d 0 (refusalLine n p) r out → (r ≡ length (refusalLine n p)) × (out ≡ refusalLine n p ++ drop (length (refusalLine n p)) d)
+put-line d out n p r h = (omega (arith, h .next-is), h .out-is ∙ put-front d (refusalLine n p))
+
+-- what was put of an answer, where the answer and the bytes are those of what was asked for
+pub put-shown : (asked : Answer (List ℕ)) (d mid out : List ℕ) (room : ℕ) (a : Answer ℕ) (r : ℕ) → room ≤ length d → Within room asked
+    → (a ≡ written asked d) × (mid ≡ held asked d) → (r ≡ putCount a) × (out ≡ putBytes a mid) → (r ≡ shownLength room asked d) × (out ≡ shownBytes room asked d)
+put-shown asked d mid out room a r h within e p =
+    let k = shown asked d room h within in
+    (p .0 ∙ ap putCount (e .0) ∙ k .0, p .1 ∙ rw (e .0, e .1) (k .1))

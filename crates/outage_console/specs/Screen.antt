@@ -1,0 +1,45 @@
+-- What the programs write: the bytes that were asked for, or the refusal. Definitions only.
+use Prim.Native.Nat.{ℕ}
+use mathlib.Core.Path.{_≡_}
+use mathlib.Core.Bool.{cond}
+use mathlib.Core.List.{List, [], _∷_, _++_}
+use lib.Dec.{leb, ltb}
+use lib.ListN.{length, drop}
+use Rattle.lexical_util.specs.Answer.{Answer, done, refused, andThen}
+use Rattle.lexical_digits.specs.Digits.{numeral}
+use Rattle.lexical_rewriting.specs.declared.text_format.TextFormat.{TextFormat}
+use Rattle.outage.specs.Table.{tableSize}
+use Rattle.outage.specs.Format.{printed}
+use Rattle.outage.specs.Calls.{tableSheet, sheetTable}
+
+-- "refused N at P" and LF, with number and place in radix 10
+unfoldable pub refusalLine : ℕ → ℕ → List ℕ
+refusalLine n p = (114 ∷ 101 ∷ 102 ∷ 117 ∷ 115 ∷ 101 ∷ 100 ∷ 32 ∷ []) ++ (numeral 10 n ++ ((32 ∷ 97 ∷ 116 ∷ 32 ∷ []) ++ (numeral 10 p ++ (10 ∷ []))))
+
+abbrev pub screen : Answer (List ℕ) → List ℕ
+screen (done bytes) = bytes
+screen (refused n p) = refusalLine n p
+
+-- ---- what each program is asked for
+-- a table's sheet
+abbrev pub printing : List ℕ → Answer (List ℕ)
+printing t = tableSheet (printed .format) (printed .options) t
+
+-- a sheet's table. No sheet is longer than 400 rows of two texts of 4,096 bytes each, a space and an LF, behind a count line of four bytes: 3,277,604 bytes. 15: more than that, at the first byte too many
+unfoldable pub reading : TextFormat → List ℕ → Answer (List ℕ)
+reading F s = cond (ltb 3277604 (length s)) (refused 15 3277604) (sheetTable (F .format) (F .options) s (tableSize 400))
+
+-- the same rows in another format
+unfoldable pub rewriting : TextFormat → TextFormat → List ℕ → Answer (List ℕ)
+rewriting F G s = andThen (reading F s) (tableSheet (G .format) (G .options))
+
+-- ---- what is shown in the bytes lent, of which there have to be `room`; in fewer, nothing
+abbrev pub shownLength : ℕ → Answer (List ℕ) → List ℕ → ℕ
+shownLength room asked out = cond (leb room (length out)) (length (screen asked)) 0
+
+abbrev pub shownBytes : ℕ → Answer (List ℕ) → List ℕ → List ℕ
+shownBytes room asked out = cond (leb room (length out)) (screen asked ++ drop (length (screen asked)) out) out
+
+-- a sheet rewritten in the format G is read back as the first one is
+abbrev pub SameRows : TextFormat → TextFormat → List ℕ → Type 0
+SameRows F G s = (text : List ℕ) → rewriting F G s ≡ done text → reading G text ≡ reading F s

@@ -1,0 +1,85 @@
+// What each program writes: the bytes that were asked for, or the refusal.
+ghost use mathlib.Core.Path.{_≡_};
+ghost use Prim.Native.Nat.{_≤_};
+ghost use lib.ListN.{length};
+ghost use Rattle.lexical_util.specs.Answer.{written, held, ofWritten};
+ghost use Rattle.outage_console.specs.Screen.{printing, reading, rewriting, shownLength, shownBytes, SameRows};
+ghost use Rattle.outage_console.specs.Code.{putCount, putBytes};
+use crate::refusal::put_refusal;
+use lexical_rewriting::TextFormat;
+use lexical_util::Refusal;
+use lexical_util::Written;
+use outage_argument::sheet_in;
+use outage_sheet::sheet_to_table;
+use outage_table::table_to_sheet;
+
+// Bytes that a call has written into those lent, or its refusal.
+fn put_answer(out: &mut [u8], answer: Written) -> usize
+    requires { ⌜ 64 ≤ length (now out) ⌝ }
+    ensures { λ r. ⌜ r ≡ putCount (ofWritten answer) ⌝ }
+    ensures { λ _. ⌜ now (out .exit) ≡ putBytes (ofWritten answer) (now (out .entry)) ⌝ }
+{
+    match answer {
+        Written::Length(count) => count,
+        Written::Refused(refusal) => put_refusal(out, refusal),
+    }
+}
+
+// The sheet of a table in 16/2, exponent radix 10, mark "p", exponent required, in at least 1,820,804 bytes: no sheet is longer. How many bytes are shown, or 0 where fewer are lent.
+pub fn print_sheet(table: &[u8], out: &mut [u8]) -> usize
+    ensures { λ r. ⌜ r ≡ shownLength 1820804 (printing (now (table .entry))) (now (out .entry)) ⌝ }
+    ensures { λ _. ⌜ now (out .exit) ≡ shownBytes 1820804 (printing (now (table .entry))) (now (out .entry)) ⌝ }
+{
+    if out.len() < 1820804 {
+        return 0;
+    }
+    let printed = sheet_in(16, 2, 10);
+    let answer = table_to_sheet(table, printed.format, printed.options, out);
+    put_answer(out, answer)
+}
+
+// A sheet's table in bytes enough for any, unless the sheet is longer than any.
+fn table_of(sheet: &[u8], format: TextFormat, table: &mut [u8]) -> Written
+    requires { ⌜ 6408 ≤ length (now table) ⌝ }
+    ensures { λ r. ⌜ ofWritten r ≡ written (reading format (now (sheet .entry))) (now (table .entry)) ⌝ }
+    ensures { λ _. ⌜ now (table .exit) ≡ held (reading format (now (sheet .entry))) (now (table .entry)) ⌝ }
+{
+    if sheet.len() > 3277604 {
+        return Written::Refused(Refusal {
+            number: 15,
+            place: 3277604,
+        });
+    }
+    sheet_to_table(sheet, format.format, format.options, table)
+}
+
+// The table of a sheet in a format, in at least 6,408 bytes: no table is longer. How many bytes are shown, or 0 where fewer are lent.
+pub fn read_sheet(sheet: &[u8], format: TextFormat, out: &mut [u8]) -> usize
+    ensures { λ r. ⌜ r ≡ shownLength 6408 (reading format (now (sheet .entry))) (now (out .entry)) ⌝ }
+    ensures { λ _. ⌜ now (out .exit) ≡ shownBytes 6408 (reading format (now (sheet .entry))) (now (out .entry)) ⌝ }
+{
+    if out.len() < 6408 {
+        return 0;
+    }
+    let answer = table_of(sheet, format, out);
+    put_answer(out, answer)
+}
+
+// A sheet in one format, with the same rows in another, in at least 1,820,804 bytes. How many bytes are shown, or 0 where fewer are lent.
+pub fn rewrite_sheet(sheet: &[u8], from: TextFormat, to: TextFormat, out: &mut [u8]) -> usize
+    ensures { λ r. ⌜ r ≡ shownLength 1820804 (rewriting from to (now (sheet .entry))) (now (out .entry)) ⌝ }
+    ensures { λ _. ⌜ now (out .exit) ≡ shownBytes 1820804 (rewriting from to (now (sheet .entry))) (now (out .entry)) ⌝ }
+    ensures same_rows { λ _. ⌜ SameRows from to (now (sheet .entry)) ⌝ }
+{
+    if out.len() < 1820804 {
+        return 0;
+    }
+    let mut table = [0u8; 6408];
+    match table_of(sheet, from, &mut table) {
+        Written::Length(count) => {
+            let answer = table_to_sheet(&table[0..count], to.format, to.options, out);
+            put_answer(out, answer)
+        }
+        Written::Refused(refusal) => put_refusal(out, refusal),
+    }
+}
