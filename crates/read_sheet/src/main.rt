@@ -1,0 +1,55 @@
+// Reads a sheet in a format from standard input and writes its table, or the refusal.
+ghost use mathlib.Core.Path.{_≡_};
+ghost use lib.ListN.{length};
+use lexical_rewriting::TextFormat;
+use libc::STDERR_FILENO;
+use libc::STDIN_FILENO;
+use libc::STDOUT_FILENO;
+use outage_argument::Argument;
+use outage_argument::read_format;
+
+// The longest sheet, and one byte more, so that a longer input is seen.
+fn input() -> [u8; 3277605]
+    ensures { λ r. ⌜ 3277605 ≡ length r ⌝ }
+{
+    [0; 3277605]
+}
+
+// The longest table.
+fn output() -> [u8; 6408]
+    ensures { λ r. ⌜ 6408 ≡ length r ⌝ }
+{
+    [0; 6408]
+}
+
+fn run(format: TextFormat) {
+    let mut sheet = input();
+    let n = io::read_full(STDIN_FILENO, &mut sheet);
+    let mut out = output();
+    let shown = outage_console::read_sheet(&sheet[0..n], format, &mut out);
+    if shown <= out.len() {
+        io::write_all(STDOUT_FILENO, &out[0..shown]);
+    }
+}
+
+fn usage() {
+    io::write_all(
+        STDERR_FILENO,
+        b"usage: read_sheet FORMAT < sheet > table\n\
+FORMAT is RADIX/BASE/EXPONENT-RADIX, as 16/2/10, with radix/base one of\n\
+2/2 4/4 8/8 16/16 32/32 4/2 8/2 16/2 32/2 16/4 and exponent radix 2, 4, 8, 10, 16 or 32\n",
+    );
+}
+
+fn main() {
+    if os::arg_count() != 2 {
+        usage();
+        return;
+    }
+    let mut text = io::buffer();
+    let n = os::arg(1, &mut text);
+    match read_format(&text[0..n]) {
+        Argument::Format(format) => run(format),
+        Argument::Unknown => usage(),
+    }
+}

@@ -1,0 +1,64 @@
+// Reads a sheet in one format from standard input and writes the same rows in another, or the refusal.
+ghost use mathlib.Core.Path.{_≡_};
+ghost use lib.ListN.{length};
+use lexical_rewriting::TextFormat;
+use libc::STDERR_FILENO;
+use libc::STDIN_FILENO;
+use libc::STDOUT_FILENO;
+use outage_argument::Argument;
+use outage_argument::read_format;
+
+// The longest sheet that is read, and one byte more, so that a longer input is seen.
+fn input() -> [u8; 3277605]
+    ensures { λ r. ⌜ 3277605 ≡ length r ⌝ }
+{
+    [0; 3277605]
+}
+
+// The longest sheet that is written.
+fn output() -> [u8; 1820804]
+    ensures { λ r. ⌜ 1820804 ≡ length r ⌝ }
+{
+    [0; 1820804]
+}
+
+fn run(from: TextFormat, to: TextFormat) {
+    let mut sheet = input();
+    let n = io::read_full(STDIN_FILENO, &mut sheet);
+    let mut out = output();
+    let shown = outage_console::rewrite_sheet(&sheet[0..n], from, to, &mut out);
+    if shown <= out.len() {
+        io::write_all(STDOUT_FILENO, &out[0..shown]);
+    }
+}
+
+fn usage() {
+    io::write_all(
+        STDERR_FILENO,
+        b"usage: rewrite_sheet FROM TO < sheet > sheet\n\
+FROM and TO are RADIX/BASE/EXPONENT-RADIX, as 16/2/10, with radix/base one of\n\
+2/2 4/4 8/8 16/16 32/32 4/2 8/2 16/2 32/2 16/4 and exponent radix 2, 4, 8, 10, 16 or 32\n",
+    );
+}
+
+fn argument(i: usize) -> Argument {
+    let mut text = io::buffer();
+    let n = os::arg(i, &mut text);
+    read_format(&text[0..n])
+}
+
+fn main() {
+    if os::arg_count() != 3 {
+        usage();
+        return;
+    }
+    let Argument::Format(from) = argument(1) else {
+        usage();
+        return;
+    };
+    let Argument::Format(to) = argument(2) else {
+        usage();
+        return;
+    };
+    run(from, to);
+}
