@@ -7,10 +7,12 @@ mod fields;
 mod format;
 mod hex;
 mod kinds;
+mod lent;
 mod numbers;
 mod print;
 mod reading;
 mod replay;
+mod sheets;
 mod tally;
 mod writing;
 

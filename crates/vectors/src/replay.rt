@@ -4,6 +4,7 @@ ghost use Rattle.vectors.specs.Counts.{Counts};
 use crate::fields;
 use crate::print;
 use crate::reading;
+use crate::sheets;
 use crate::tally;
 use crate::tally::Tally;
 use crate::tally::Verdict;
@@ -14,6 +15,7 @@ const SHOWN: usize = 5;
 
 enum Kind {
     Reading,
+    Sheet,
     Writing,
 }
 
@@ -22,12 +24,16 @@ fn kind_of(input: &[u8]) -> Kind {
     if fields::is_word(input, 0, b"R") {
         return Kind::Reading;
     }
+    if fields::is_word(input, 0, b"T") || fields::is_word(input, 0, b"S") {
+        return Kind::Sheet;
+    }
     Kind::Writing
 }
 
 fn judge(input: &[u8], answer: &[u8]) -> Verdict {
     match kind_of(input) {
         Kind::Reading => reading::judge(input, answer),
+        Kind::Sheet => sheets::judge(input, answer),
         Kind::Writing => writing::judge(input, answer),
     }
 }
@@ -36,6 +42,7 @@ fn judge(input: &[u8], answer: &[u8]) -> Verdict {
 fn show_given(input: &[u8], room: usize) {
     match kind_of(input) {
         Kind::Reading => reading::show(input),
+        Kind::Sheet => sheets::show(input),
         Kind::Writing => writing::show(input, room),
     }
 }

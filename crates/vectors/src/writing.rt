@@ -6,6 +6,7 @@ use crate::answer::Answer;
 use crate::fields;
 use crate::format;
 use crate::kinds;
+use crate::lent;
 use crate::numbers;
 use crate::numbers::Number;
 use crate::print;
@@ -28,9 +29,6 @@ const POINT: usize = 9;
 
 const TRIM: usize = 11;
 
-// What lent bytes hold before a call. No text has this byte.
-const FILL: u8 = 7;
-
 const ROOM: usize = 4096;
 
 enum Float {
@@ -42,7 +40,7 @@ enum Float {
 fn filled() -> [u8; ROOM]
     ensures { λ r. ⌜ 4096 ≡ length r ⌝ }
 {
-    [FILL; ROOM]
+    [lent::FILL; ROOM]
 }
 
 // The float with these bits: a finite one with the sign clear, as every list has.
@@ -93,30 +91,11 @@ fn call_with(input: &[u8], room: usize, out: &mut [u8]) -> Answer {
     call(input, &mut out[0..room])
 }
 
-// Whether every byte from a place on is as it was.
-fn is_filled(out: &[u8], from: usize) -> bool {
-    let space = filled();
-    let fresh: &[u8] = &space;
-    if from > out.len() || from > fresh.len() {
-        return false;
-    }
-    fields::equal(&out[from..], &fresh[from..])
-}
-
-// Whether a text stands at the start, and every byte past it is as it was.
-fn holds(out: &[u8], text: &[u8]) -> bool {
-    let n = text.len();
-    if n > out.len() {
-        return false;
-    }
-    fields::equal(&out[0..n], text) && is_filled(out, n)
-}
-
 // Whether a call with so many bytes gives this answer and this text, and leaves every other byte as it was, those that it was not lent too.
 fn agrees(input: &[u8], room: usize, wanted: Answer, text: &[u8]) -> bool {
     let mut space = filled();
     let given = call_with(input, room, &mut space);
-    answer::is_same(given, wanted) && holds(&space, text)
+    answer::is_same(given, wanted) && lent::holds(&space, text)
 }
 
 // A text: the same with as many bytes as it has, and refused with one byte less.
@@ -198,7 +177,7 @@ fn show_text(n: u64, out: &[u8]) {
         print::text(b" ");
         print::text(&out[0..end]);
     }
-    if !is_filled(out, end) {
+    if !lent::is_filled(&out[end..]) {
         print::text(b", and changed a byte past it");
     }
 }
