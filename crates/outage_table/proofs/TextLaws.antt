@@ -1,8 +1,8 @@
--- The text of a float of a table. Assumes nothing.
-use Prim.Native.Nat.{ℕ, _+_, _≤_}
+-- The text of a float that passed, what the writer answers for it, and the four pieces of a row. Assumes nothing.
+use Prim.Native.Nat.{ℕ, _+_, _≤_, _<_}
 use mathlib.Core.Path.{_≡_, refl, ap, _∙_}
 use mathlib.Core.Bool.{true, false}
-use mathlib.Core.List.{List}
+use mathlib.Core.List.{List, [], _∷_}
 use native.Mathlib.Omega.{arith}
 use lib.Dec.{T}
 use lib.ListN.{length, length-append}
@@ -15,6 +15,8 @@ use Rattle.lexical_format.specs.declared.options.Options.{Options}
 use Rattle.lexical_format.specs.Format.{writingFormat}
 use Rattle.lexical_text.specs.Write.{floatText, writeText}
 use Rattle.lexical_text.proofs.WriteLaws.{longest-text}
+use Rattle.lexical_write_float.specs.Code.{Puts}
+use Rattle.lexical_write_float.proofs.PutLaws.{puts-more}
 use Rattle.outage.specs.declared.window.Window.{Window}
 use Rattle.outage.specs.Window.{isPlain}
 use Rattle.outage_table.specs.Text.{textOf, rowOf, HasText}
@@ -45,3 +47,27 @@ module _ (F : NumberFormat) (o : Options) where
   pub row-length : (w : Window) → length (rowOf F o w) ≡ length (textOf F o (w .start)) + length (textOf F o (w .end)) + 2
   unfolding rowOf
   row-length w = simp length-append (omega arith)
+
+  -- ---- a row's four pieces, each put where the one before it ended: they have room, and together they are the row
+  module _ (w : Window) (d : List ℕ) (at : ℕ) (room : at + length (rowOf F o w) ≤ length d) where
+    pub start-room : at + length (textOf F o (w .start)) ≤ length d
+    start-room = omega (arith, row-length w)
+
+    module _ (space : ℕ) (d1 : List ℕ) (same1 : length d1 ≡ length d) (start : Puts d at (textOf F o (w .start)) space d1) where
+      pub space-room : space < length d1
+      space-room = omega (arith, row-length w)
+
+      module _ {byte : ℕ} (end : ℕ) (d2 : List ℕ) (same2 : length d2 ≡ length d1) (apart : Puts d1 space (byte ∷ []) end d2) where
+        pub end-room : end + length (textOf F o (w .end)) ≤ length d2
+        end-room = omega (arith, row-length w)
+
+        module _ (newline : ℕ) (d3 : List ℕ) (same3 : length d3 ≡ length d2) (stop : Puts d2 end (textOf F o (w .end)) newline d3) where
+          pub newline-room : newline < length d3
+          newline-room = omega (arith, row-length w)
+
+          pub row-puts : byte ≡ 32 → (next : ℕ) (d4 : List ℕ) → Puts d3 newline (10 ∷ []) next d4 → Puts d at (rowOf F o w) next d4
+          unfolding rowOf
+          row-puts e next d4 last =
+              rw (← e)
+              (puts-more _ d4 next (omega (arith, start-room)) start
+              (puts-more _ d4 next (omega (arith, space-room)) apart (puts-more _ d4 next (omega (arith, end-room)) stop last)))

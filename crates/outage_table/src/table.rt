@@ -61,9 +61,9 @@ pub(crate) fn row_at(table: &[u8], n: usize, i: usize) -> CheckedWindow
     };
     match outage::check_window(window) {
         CheckedWindow::Passed(passed) => CheckedWindow::Passed(passed),
-        CheckedWindow::Refused(refusal) => CheckedWindow::Refused(Refusal {
-            number: refusal.number,
-            place: i,
-        }),
+        CheckedWindow::Refused(refusal) => {
+            let number = refusal.number;
+            CheckedWindow::Refused(Refusal { number, place: i })
+        }
     }
 }

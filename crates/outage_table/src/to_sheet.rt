@@ -61,15 +61,15 @@ fn put_rows(
     ensures { λ r. ⌜ Puts (now (sheet .entry)) from (rowsOf format options (found (rowsFrom (now (table .entry)) n 0 n))) r (now (sheet .exit)) ⌝ }
 {
     let mut at = from;
-    let mut i: usize = 0;
-    while i < n {
-        match row_at(table, n, i) {
+    let mut row: usize = 0;
+    while row < n {
+        match row_at(table, n, row) {
             CheckedWindow::Passed(window) => {
                 at = put_row(sheet, at, window, format, options);
             }
             CheckedWindow::Refused(_) => return at,
         }
-        i += 1;
+        row += 1;
     }
     at
 }

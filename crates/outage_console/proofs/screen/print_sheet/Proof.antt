@@ -11,7 +11,7 @@ use Rattle.outage_console.proofs.screen.print_sheet.Tie as tie
 returns : tie.Need-returns
 returns c =
     let a = c .before .before .before .args in
-    nothing (printing (a .table .now)) (a .out .now) 1820804 (c .if1 .taken)
+    nothing (printing (a .table .now)) (a .out .now) 1820804 (omega (arith, c .if1 .taken))
 
 sheet-in-requires : tie.Need-sheet-in-requires
 sheet-in-requires c κs = search needs

@@ -9,7 +9,7 @@ use Rattle.outage_console.proofs.screen.read_sheet.Tie as tie
 returns : tie.Need-returns
 returns c =
     let a = c .before .before .before .args in
-    nothing (reading (a .format) (a .sheet .now)) (a .out .now) 6408 (c .if1 .taken)
+    nothing (reading (a .format) (a .sheet .now)) (a .out .now) 6408 (omega (arith, c .if1 .taken))
 
 table-of-requires : tie.Need-table-of-requires
 table-of-requires c κs = search needs

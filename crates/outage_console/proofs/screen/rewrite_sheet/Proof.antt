@@ -33,7 +33,7 @@ table-got c =
 returns : tie.Need-returns
 returns c =
     let a = c .before .before .before .args in
-    let k = nothing (rewriting (a .from) (a .to) (a .sheet .now)) (a .out .now) 1820804 (c .if1 .taken) in
+    let k = nothing (rewriting (a .from) (a .to) (a .sheet .now)) (a .out .now) 1820804 (omega (arith, c .if1 .taken)) in
     (k .0, (k .1, same-rows (a .from) (a .to) (a .sheet .now)))
 
 slice-aggregate-table-of : tie.Need-slice-aggregate-table-of

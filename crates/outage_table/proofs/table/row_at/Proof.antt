@@ -1,14 +1,21 @@
 -- `outage_table::table::row_at` meets its contract: bits from the infinity's on are refused before a float is made of them, and the window of two others is checked. Assumes nothing.
+use Prim.Native.Nat.{ℕ, _≤_}
 use mathlib.Core.Path.{sym, ap, _∙_}
+use mathlib.Core.Bool.{not}
 use native.Mathlib.Nat.{mod-le}
 use native.Mathlib.Omega.{arith}
 use borrow.Author.Needs.{needs}
-use lib.Ieee.{binary64, top}
+use lib.Dec.{T}
+use lib.Ieee.{binary64, top, nanBits}
 use Rattle.lexical_float.proofs.PartsLaws.{tested-bits}
 use Rattle.outage.specs.Window.{ofCheckedWindow}
 use Rattle.outage_table.proofs.TableLaws.{start-bad, end-bad, both-plain, both-refused}
 use Rattle.outage_table.proofs.table.row_at.Statement.{statement}
 use Rattle.outage_table.proofs.table.row_at.Tie as tie
+
+-- up to the infinity's bits there is no NaN
+no-nan : (b : ℕ) → b ≤ 9218868437227405312 → T (not (nanBits binary64 b))
+no-nan b h = tested-bits binary64 b (omega (arith, mod-le b (top binary64)))
 
 mul-word-at : tie.Need-mul-word-at
 mul-word-at c = search needs
@@ -47,11 +54,11 @@ returns-2 c =
     let end = c .before .word-at2 in
     end-bad (a .table .now) (a .n) (a .i) (start .result) (start .ensures .0) (omega arith) (end .result) (end .ensures .0) (end .ensures .1) (omega arith)
 
-float-from-bits-t16 : tie.Need-float-from-bits-t16
-float-from-bits-t16 c = let b = c .before .before .before .word-at .result in tested-bits binary64 b (omega (arith, mod-le b (top binary64)))
-
 float-from-bits-t17 : tie.Need-float-from-bits-t17
-float-from-bits-t17 c = let b = c .before .word-at2 .result in tested-bits binary64 b (omega (arith, mod-le b (top binary64)))
+float-from-bits-t17 c = no-nan _ (omega arith)
+
+float-from-bits-t18 : tie.Need-float-from-bits-t18
+float-from-bits-t18 c = no-nan _ (omega arith)
 
 check-window-requires : tie.Need-check-window-requires
 check-window-requires c κs = tt
@@ -94,8 +101,8 @@ row-at-spec =
     add-word-at-3
     word-at-requires-2
     returns-2
-    float-from-bits-t16
     float-from-bits-t17
+    float-from-bits-t18
     check-window-requires
     enum-known-passed
     enum-known-refusal

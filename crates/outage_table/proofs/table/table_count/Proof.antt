@@ -12,7 +12,7 @@ word-at-requires : tie.Need-word-at-requires
 word-at-requires c κs = search needs
 
 returns-2 : tie.Need-returns-2
-returns-2 c = count-many _ _ (c .before .word-at .ensures .0) (omega arith) (c .if2 .taken)
+returns-2 c = count-many _ _ (c .before .word-at .ensures .0) (omega arith) (omega arith)
 
 word-at-requires-2 : tie.Need-word-at-requires-2
 word-at-requires-2 c κs = search needs

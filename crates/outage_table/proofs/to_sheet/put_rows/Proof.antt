@@ -12,10 +12,10 @@ use Rattle.outage_table.proofs.to_sheet.put_rows.Statement.{statement}
 use Rattle.outage_table.proofs.to_sheet.put_rows.Tie as tie
 
 abbrev Inv-loop : tie.InvT-loop
-Inv-loop table n sheet₀ from format options at₀ i₀ sheet at i = Going format options (found (rowsFrom table n 0 n)) sheet₀ from (rowsFrom table n i (n - i)) sheet at × (i ≤ n)
+Inv-loop table n sheet₀ from format options at₀ row₀ sheet at row = Going format options (found (rowsFrom table n 0 n)) sheet₀ from (rowsFrom table n row (n - row)) sheet at × (row ≤ n)
 
 abbrev μ-loop : tie.MeasureT-loop
-μ-loop table n sheet₀ from format options at₀ i₀ sheet at i = n - i
+μ-loop table n sheet₀ from format options at₀ row₀ sheet at row = n - row
 
 loop-holds : tie.Need-loop-holds Inv-loop μ-loop
 loop-holds c =
@@ -30,7 +30,7 @@ enum-known-window : tie.Need-enum-known-window Inv-loop μ-loop
 enum-known-window c = search needs
 
 passed : (c : tie.After-window Inv-loop μ-loop) → let l = c .before .before .before .before .loop in let a = c .before .before .before .before .before .before .before .args in
-    rowAt (a .table .now) (a .n) (l .i) ≡ done (c .window .given .0 .0)
+    rowAt (a .table .now) (a .n) (l .row) ≡ done (c .window .given .0 .0)
 passed c = sym (c .before .before .row-at .ensures) ∙ ap ofCheckedWindow (c .window .given .1)
 
 put-row-requires : tie.Need-put-row-requires Inv-loop μ-loop
@@ -40,9 +40,9 @@ put-row-requires c κs =
     let s = w .before .before .before .before .before .before .before in
     let a = s .args in
     let v = w .window .given .0 .0 in
-    let rest = rowsFrom (a .table .now) (a .n) (l .i + 1) (a .n - (l .i + 1)) in
-    let more = rows-more (a .table .now) (a .n) (l .i) v (omega arith) (passed w) in
-    (row-texts (a .format) (a .options) (s .pre .0) (a .table .now) (a .n) (l .i) v (passed w), going-room (a .format) (a .options) v rest (rw more at (l .inv .0)))
+    let rest = rowsFrom (a .table .now) (a .n) (l .row + 1) (a .n - (l .row + 1)) in
+    let more = rows-more (a .table .now) (a .n) (l .row) v (omega arith) (passed w) in
+    (row-texts (a .format) (a .options) (s .pre .0) (a .table .now) (a .n) (l .row) v (passed w), going-room (a .format) (a .options) v rest (rw more at (l .inv .0)))
 
 enum-told : tie.Need-enum-told Inv-loop μ-loop
 enum-told c = search needs
@@ -54,11 +54,11 @@ returns : tie.Need-returns Inv-loop μ-loop
 returns c =
     let l = c .before .before .before .before .loop in
     let a = c .before .before .before .before .before .before .before .args in
-    let stopped = rows-stop (a .table .now) (a .n) (l .i) _ _ (omega arith) (sym (c .before .before .row-at .ensures) ∙ ap ofCheckedWindow (c .enum-told .given .1)) in
+    let stopped = rows-stop (a .table .now) (a .n) (l .row) _ _ (omega arith) (sym (c .before .before .row-at .ensures) ∙ ap ofCheckedWindow (c .enum-told .given .1)) in
     absurd (going-dead (a .format) (a .options) (rw stopped at (l .inv .0)))
 
-add-i : tie.Need-add-i Inv-loop μ-loop
-add-i c = omega arith
+add-row : tie.Need-add-row Inv-loop μ-loop
+add-row c = omega arith
 
 loop-less : tie.Need-loop-less Inv-loop μ-loop
 loop-less c = omega arith
@@ -70,8 +70,8 @@ loop-again c =
     let l = w .before .before .before .before .loop in
     let a = w .before .before .before .before .before .before .before .args in
     let v = w .window .given .0 .0 in
-    let rest = rowsFrom (a .table .now) (a .n) (l .i + 1) (a .n - (l .i + 1)) in
-    let more = rows-more (a .table .now) (a .n) (l .i) v (omega arith) (passed w) in
+    let rest = rowsFrom (a .table .now) (a .n) (l .row + 1) (a .n - (l .row + 1)) in
+    let more = rows-more (a .table .now) (a .n) (l .row) v (omega arith) (passed w) in
     (going-more (a .format) (a .options) v rest (rw more at (l .inv .0)) _ _ (p .put-row .kept .0) (p .put-row .ensures), omega arith)
 
 same-length-2 : tie.Need-same-length-2 Inv-loop μ-loop
@@ -81,7 +81,7 @@ returns-2 : tie.Need-returns-2 Inv-loop μ-loop
 returns-2 c =
     let l = c .before .loop in
     let a = c .before .before .before .before .args in
-    going-end (a .format) (a .options) (rw (rows-end (a .table .now) (a .n) (l .i) (omega arith)) at (l .inv .0))
+    going-end (a .format) (a .options) (rw (rows-end (a .table .now) (a .n) (l .row) (omega arith)) at (l .inv .0))
 
 pub put-rows-spec : {M : Type 1} → statement M
 put-rows-spec =
@@ -96,7 +96,7 @@ put-rows-spec =
     enum-told
     same-length
     returns
-    add-i
+    add-row
     loop-less
     loop-again
     same-length-2
