@@ -9,4 +9,5 @@ pub mod WayBackLaws
 pub mod LengthLaws
 pub mod StoredLaws
 pub mod RoomLaws
+pub mod AgainLaws
 pub mod Worked

@@ -135,30 +135,43 @@ table-bytes ws =
     (all-append (toBytes 4 (tableSize (length ws))) (starts ++ (ends ++ [])) (to-bytes 4 (tableSize (length ws))) columns-are)
 
 -- ---- a sheet's table
-pub record Stored (t : List ℕ) : Type 0 where
+pub record Stored (F : NumberFormat) (o : Options) (s t : List ℕ) : Type 0 where
+  pub count : ℕ
+  pub windows : List Window
+  pub are-rows : sheetRows F o s count ≡ done windows
+  pub is-table : tableOf windows ≡ t
+  pub few : length windows ≤ 400
   pub are-bytes : AreBytes t
   pub short : length t ≤ 6408
 
-pub stored : (F : NumberFormat) (o : Options) (s : List ℕ) (room : ℕ) (t : List ℕ) → sheetTable F o s room ≡ done t → Stored t
+pub stored : (F : NumberFormat) (o : Options) (s : List ℕ) (room : ℕ) (t : List ℕ) → sheetTable F o s room ≡ done t → Stored F o s t
 unfolding sheetTable countedTable
 stored F o s room t e = by-format (readingFormat F o) e
   where
-    by-rows : (n : ℕ) → sheetCount s ≡ done n → (a : Answer (List Window)) → sheetRows F o s n ≡ a → andThen a (λ ws. done (tableOf ws)) ≡ done t → Stored t
+    by-rows : (n : ℕ) → sheetCount s ≡ done n → (a : Answer (List Window)) → sheetRows F o s n ≡ a → andThen a (λ ws. done (tableOf ws)) ≡ done t → Stored F o s t
     by-rows n c (refused k p) f e = absurd (refused-done k p t e)
     by-rows n c (done ws) f e =
         let same = done-same (tableOf ws) t e in
         let many : length ws ≡ n = subst (Counted n) f (lines-counted F o n (length (before 10 s) + 1) none (drop (length (before 10 s) + 1) s)) in
         let few = count-few s n c in
-        record { are-bytes = subst AreBytes same (table-bytes ws); short = omega (arith, ap length same, table-length ws) }
+        record {
+          count = n;
+          windows = ws;
+          are-rows = f;
+          is-table = same;
+          few = omega arith;
+          are-bytes = subst AreBytes same (table-bytes ws);
+          short = omega (arith, ap length same, table-length ws);
+        }
 
-    by-room : (n : ℕ) → sheetCount s ≡ done n → (b : Bool) → cond b (refused 8 0) (andThen (sheetRows F o s n) (λ ws. done (tableOf ws))) ≡ done t → Stored t
+    by-room : (n : ℕ) → sheetCount s ≡ done n → (b : Bool) → cond b (refused 8 0) (andThen (sheetRows F o s n) (λ ws. done (tableOf ws))) ≡ done t → Stored F o s t
     by-room n c true e = absurd (refused-done 8 0 t e)
     by-room n c false e = by-rows n c (sheetRows F o s n) refl e
 
-    by-count : (a : Answer ℕ) → sheetCount s ≡ a → andThen a (λ n. checked ((8, ltb room (tableSize n)) ∷ []) (andThen (sheetRows F o s n) (λ ws. done (tableOf ws)))) ≡ done t → Stored t
+    by-count : (a : Answer ℕ) → sheetCount s ≡ a → andThen a (λ n. checked ((8, ltb room (tableSize n)) ∷ []) (andThen (sheetRows F o s n) (λ ws. done (tableOf ws)))) ≡ done t → Stored F o s t
     by-count (refused k p) c e = absurd (refused-done k p t e)
     by-count (done n) c e = by-room n c (ltb room (tableSize n)) e
 
-    by-format : (a : Answer Pair) → andThen a (λ row. andThen (sheetCount s) (λ n. checked ((8, ltb room (tableSize n)) ∷ []) (andThen (sheetRows F o s n) (λ ws. done (tableOf ws))))) ≡ done t → Stored t
+    by-format : (a : Answer Pair) → andThen a (λ row. andThen (sheetCount s) (λ n. checked ((8, ltb room (tableSize n)) ∷ []) (andThen (sheetRows F o s n) (λ ws. done (tableOf ws))))) ≡ done t → Stored F o s t
     by-format (refused k p) e = absurd (refused-done k p t e)
     by-format (done row) e = by-count (sheetCount s) refl e

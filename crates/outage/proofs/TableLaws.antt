@@ -1,7 +1,7 @@
 -- What a table that passed holds: its header, its rows, and the table of its windows, which is itself. Assumes nothing.
 use Prim.Native.Nat.{ℕ, zero, suc, _+_, _*_, _^_, _≤_, _<_}
 use mathlib.Core.Path.{_≡_, refl, sym, ap, _∙_, subst}
-use mathlib.Core.Bool.{true, false, not}
+use mathlib.Core.Bool.{Bool, true, false, not}
 use mathlib.Core.List.{List, [], _∷_, _++_, append-nil}
 use native.Mathlib.Omega.{arith}
 use borrow.Author.Tests.{not-false, eqb-true, ltb-false}
@@ -10,6 +10,7 @@ use lib.ListN.{length, take, drop, length-drop, take-append-drop}
 use lib.Seq.{take-add, drop-drop, take-all}
 use lib.Ieee.{Float, nan, inf, fin, binary64, toBits, isNan, lt}
 use lib.Ieee.Bits.{ofBits-fits, toBits-ofBits}
+use lib.Ieee.Exact.{HasValue}
 use Rattle.lexical_util.specs.Answer.{Answer, done, refused, andThen}
 use Rattle.lexical_util.specs.Digit.{All}
 use Rattle.lexical_util.proofs.AnswerLaws.{refused-done, done-same, passed}
@@ -65,6 +66,11 @@ unfolding isNan
 plain-no-nan nan e = subst T (sym e) tt
 plain-no-nan (inf s) e = tt
 plain-no-nan (fin s m d) e = tt
+
+pub value-plain : (x : Float) (s : Bool) (a c : ℕ) → HasValue x s a c → isPlain x ≡ not s
+value-plain nan s a c h = absurd h
+value-plain (inf t) s a c h = absurd h
+value-plain (fin t m e) s a c h = ap not (h .0)
 
 -- ---- all rows
 pub record Split (t : List ℕ) (n i k : ℕ) (ws : List Window) : Type 0 where

@@ -7,7 +7,7 @@ use mathlib.Core.Option.{Option, none, some}
 use native.Mathlib.Omega.{arith}
 use borrow.Author.Tests.{ltb-true, ltb-false}
 use lib.Dec.{ltb}
-use lib.Ieee.{Float}
+use lib.Ieee.{Float, nan, inf, fin}
 use Rattle.lexical_util.specs.Answer.{done}
 use Rattle.lexical_util.specs.Digit.{digitByte}
 use Rattle.lexical_util.proofs.AnswerLaws.{refused-done, passed}
@@ -15,12 +15,13 @@ use Rattle.lexical_util.proofs.DigitLaws.{byte-figure, byte-capital}
 use Rattle.lexical_format.specs.declared.format.NumberFormat.{NumberFormat}
 use Rattle.lexical_format.specs.declared.format.Pair.{Pair}
 use Rattle.lexical_format.specs.declared.options.Options.{Options}
-use Rattle.lexical_format.specs.Format.{badByte, badBytes, readingChecks, checkedPair, pairOf, readingFormat}
+use Rattle.lexical_format.specs.Format.{badByte, badBytes, readingChecks, checkedPair, pairOf, readingFormat, writingFormat}
 use Rattle.lexical_format.proofs.FormatLaws.{neither}
-use Rattle.lexical_text.specs.Write.{writeText}
+use Rattle.lexical_text.specs.Write.{limitedText, floatText, writeText}
 use Rattle.lexical_reading.specs.Shape.{Grammar, Sign, unsigned, plus, minus, Tail, absent, exponent, Shape, signBytes, tailBytes, fractionBytes, print}
 use Rattle.lexical_reading.specs.Read.{grammarOf}
 use Rattle.lexical_rewriting.proofs.WrittenLaws.{written-is-shaped}
+use Rattle.outage.specs.Window.{isPlain}
 use Rattle.outage.proofs.BeforeLaws.{Lacks, lacks-append}
 
 -- ---- point and mark
@@ -85,3 +86,11 @@ text-lacks b low F o row x t r e =
     let shaped = written-is-shaped F o x t e in
     let seen = visible F o row r in
     subst (Lacks b) (shaped .printed) (print-lacks b low (grammarOf F o) (seen .point) (seen .mark) (shaped .shape))
+
+-- a finite float with the sign bit clear has a text in every format that the writer admits
+pub plain-text : (F : NumberFormat) (o : Options) (row : Pair) → writingFormat F o ≡ done row → (x : Float) → isPlain x ≡ true → (t : List ℕ) × (writeText F o x ≡ done t)
+unfolding writeText floatText
+plain-text F o row w nan p = absurd (let z : _≡_ {A = ℕ} 0 1 = cc in omega arith)
+plain-text F o row w (inf s) p = absurd (let z : _≡_ {A = ℕ} 0 1 = cc in omega arith)
+plain-text F o row w (fin true m e) p = absurd (let z : _≡_ {A = ℕ} 0 1 = cc in omega arith)
+plain-text F o row w (fin false m e) p = (limitedText F o row m e, rw w)

@@ -31,6 +31,7 @@ abbrev pub onDigit : ℕ → ℕ → Option ℕ → (ℕ → Option ℕ) → Opt
 onDigit limit a none more = none
 onDigit limit a (some d) more = cond (leb (a * 10 + d) limit) (more (a * 10 + d)) none
 
+-- the digits behind those that spell a
 unfoldable pub numberOn : ℕ → ℕ → List ℕ → Option ℕ
 numberOn limit a [] = some a
 numberOn limit a (x ∷ xs) = onDigit limit a (digitIn 10 x) (λ b. numberOn limit b xs)

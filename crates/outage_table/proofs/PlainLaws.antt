@@ -1,21 +1,16 @@
 -- A float by its bits: it is finite with the sign bit clear exactly where they are below the infinity's. Assumes nothing.
 use Prim.Native.Nat.{ℕ, _*_, _≤_, _<_}
-use mathlib.Core.Path.{_≡_, refl, ap}
+use mathlib.Core.Path.{_≡_, refl}
 use mathlib.Core.Bool.{Bool, true, false, not}
 use native.Mathlib.Omega.{arith}
 use lib.Dec.{T}
 use lib.Ieee.{Float, nan, inf, fin, Format, hid, ones, top, ofBits}
-use lib.Ieee.Exact.{HasValue}
 use lib.Ieee.Scale.{finite}
 use Rattle.lexical_util.proofs.DifferenceLaws.{by-larger}
 use Rattle.lexical_float.specs.Encoding.{bitsOf}
 use Rattle.lexical_float.proofs.PartsLaws.{bits-value, special-bits, special-value, split-bits}
 use Rattle.outage.specs.Window.{isPlain}
-
-value-plain : (x : Float) (s : Bool) (a c : ℕ) → HasValue x s a c → isPlain x ≡ not s
-value-plain nan s a c h = absurd h
-value-plain (inf t) s a c h = absurd h
-value-plain (fin t m e) s a c h = ap not (h .0)
+use Rattle.outage.proofs.TableLaws.{value-plain}
 
 special-plain : (x : Float) → T (not (finite x)) → isPlain x ≡ false
 special-plain nan h = refl

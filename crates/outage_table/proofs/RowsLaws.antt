@@ -17,14 +17,14 @@ use Rattle.outage.specs.Table.{rowAt, rowsFrom}
 use Rattle.outage.proofs.FormatLaws.{taken}
 use Rattle.outage.proofs.TableLaws.{row-passes}
 use Rattle.outage_table.specs.Text.{found, rowOf, rowsOf, HasTexts, Admitted}
-use Rattle.outage_table.proofs.TextLaws.{plain-text}
+use Rattle.outage_table.proofs.TextLaws.{has-text}
 
 -- ---- a row that passed
 pub row-texts : (F : NumberFormat) (o : Options) → Admitted F o → (t : List ℕ) (n i : ℕ) (v : Window) → rowAt t n i ≡ done v → HasTexts F o v
 row-texts F o A t n i v e =
     let p = row-passes t n i v e in
     let w = taken F o (A .0) (A .1) .writes in
-    subst (HasTexts F o) (p .same) (plain-text F o (A .0) w _ (p .start-plain), plain-text F o (A .0) w _ (p .end-plain))
+    subst (HasTexts F o) (p .same) (has-text F o (A .0) w _ (p .start-plain), has-text F o (A .0) w _ (p .end-plain))
 
 -- ---- one row more
 module _ (t : List ℕ) (n i : ℕ) where

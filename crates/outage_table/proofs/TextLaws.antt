@@ -1,34 +1,32 @@
 -- The text of a float that passed, what the writer answers for it, and the four pieces of a row. Assumes nothing.
 use Prim.Native.Nat.{ℕ, _+_, _≤_, _<_}
 use mathlib.Core.Path.{_≡_, refl, ap, _∙_}
-use mathlib.Core.Bool.{true, false}
+use mathlib.Core.Bool.{true}
 use mathlib.Core.List.{List, [], _∷_}
 use native.Mathlib.Omega.{arith}
 use lib.Dec.{T}
 use lib.ListN.{length, length-append}
-use lib.Ieee.{Float, nan, inf, fin, binary64, fits}
+use lib.Ieee.{Float, binary64, fits}
 use Rattle.lexical_util.specs.Answer.{Answer, done, refused, written}
 use Rattle.lexical_util.proofs.AnswerLaws.{text-fits, done-same, refused-done}
 use Rattle.lexical_format.specs.declared.format.NumberFormat.{NumberFormat}
 use Rattle.lexical_format.specs.declared.format.Pair.{Pair}
 use Rattle.lexical_format.specs.declared.options.Options.{Options}
 use Rattle.lexical_format.specs.Format.{writingFormat}
-use Rattle.lexical_text.specs.Write.{floatText, writeText}
+use Rattle.lexical_text.specs.Write.{writeText}
 use Rattle.lexical_text.proofs.WriteLaws.{longest-text}
 use Rattle.lexical_write_float.specs.Code.{Puts}
 use Rattle.lexical_write_float.proofs.PutLaws.{puts-more}
 use Rattle.outage.specs.declared.window.Window.{Window}
 use Rattle.outage.specs.Window.{isPlain}
+use Rattle.outage.proofs.TextLaws.{plain-text}
 use Rattle.outage_table.specs.Text.{textOf, rowOf, HasText}
 
 module _ (F : NumberFormat) (o : Options) where
   -- a float that passed has a text
-  pub plain-text : (row : Pair) → writingFormat F o ≡ done row → (x : Float) → isPlain x ≡ true → HasText F o x
-  unfolding writeText floatText textOf
-  plain-text row w nan p = absurd (let z : _≡_ {A = ℕ} 0 1 = cc in omega arith)
-  plain-text row w (inf s) p = absurd (let z : _≡_ {A = ℕ} 0 1 = cc in omega arith)
-  plain-text row w (fin true m e) p = absurd (let z : _≡_ {A = ℕ} 0 1 = cc in omega arith)
-  plain-text row w (fin false m e) p = rw w
+  pub has-text : (row : Pair) → writingFormat F o ≡ done row → (x : Float) → isPlain x ≡ true → HasText F o x
+  unfolding textOf
+  has-text row w x p = rw (plain-text F o row w x p .1)
 
   pub text-short : (x : Float) → T (fits binary64 x) → HasText F o x → length (textOf F o x) ≤ 2275
   text-short x h e = longest-text binary64 F o x (textOf F o x) h e
