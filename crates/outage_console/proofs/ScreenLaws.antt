@@ -13,16 +13,18 @@ use Rattle.lexical_util.specs.Answer.{Answer, done, refused, andThen, written, 
 use Rattle.lexical_util.proofs.AnswerLaws.{refused-done, done-same, text-fits}
 use Rattle.lexical_digits.specs.Digits.{numeral}
 use Rattle.lexical_digits.proofs.DigitsLaws.{length-numeral, count-le}
+use Rattle.lexical_format.specs.declared.format.Pair.{Pair}
 use Rattle.lexical_write_float.specs.Code.{Puts}
 use Rattle.lexical_write_float.proofs.PutLaws.{put-front}
 use Rattle.lexical_rewriting.specs.declared.text_format.TextFormat.{TextFormat}
 use Rattle.outage.specs.Table.{tableSize}
-use Rattle.outage.specs.Calls.{tableSheet, sheetTable}
+use Rattle.outage.specs.Calls.{sheetFormat, tableSheet, sheetTable}
+use Rattle.outage.proofs.AgainLaws.{sheet-again}
 use Rattle.outage.proofs.LengthLaws.{sheet-short}
 use Rattle.outage.proofs.RoomLaws.{room-enough}
 use Rattle.outage.proofs.StoredLaws.{Stored, stored}
 use Rattle.outage.proofs.WayBackLaws.{table-again}
-use Rattle.outage_console.specs.Screen.{refusalLine, reading, rewriting, shownLength, shownBytes, SameRows}
+use Rattle.outage_console.specs.Screen.{refusalLine, reading, rewriting, shown, shownBytes, SameRows}
 use Rattle.outage_console.specs.Code.{putCount, putBytes}
 
 -- ---- a refusal's line
@@ -43,19 +45,19 @@ abbrev pub Within : ℕ → Answer (List ℕ) → Type 0
 Within room asked = (t : List ℕ) → asked ≡ done t → length t ≤ room
 
 module _ (asked : Answer (List ℕ)) (out : List ℕ) (room : ℕ) where
-  pub shown : room ≤ length out → Within room asked → (putCount (written asked out) ≡ shownLength room asked out) × (putBytes (written asked out) (held asked out) ≡ shownBytes room asked out)
-  shown h within = go asked within
+  shows : room ≤ length out → Within room asked → (done (putCount (written asked out)) ≡ shown room asked out) × (putBytes (written asked out) (held asked out) ≡ shownBytes room asked out)
+  shows h within = go asked within
     where
       enough : leb room (length out) ≡ true
       enough = le-leb room (length out) h
 
-      go : (a : Answer (List ℕ)) → Within room a → (putCount (written a out) ≡ shownLength room a out) × (putBytes (written a out) (held a out) ≡ shownBytes room a out)
+      go : (a : Answer (List ℕ)) → Within room a → (done (putCount (written a out)) ≡ shown room a out) × (putBytes (written a out) (held a out) ≡ shownBytes room a out)
       go (done t) w =
           let fits = text-fits t out (length t) refl (le-trans (w t refl) h) in
           (rw (enough, fits .0), rw (enough, fits .0, fits .1))
       go (refused n p) w = (rw enough, rw enough)
 
-  pub nothing : length out < room → (0 ≡ shownLength room asked out) × (out ≡ shownBytes room asked out)
+  pub nothing : length out < room → (refused 8 0 ≡ shown room asked out) × (out ≡ shownBytes room asked out)
   nothing h = (rw (lt-leb room (length out) h), rw (lt-leb room (length out) h))
 
   -- what such an answer tells of what was asked for
@@ -88,11 +90,11 @@ module _ (asked : Answer (List ℕ)) (out : List ℕ) (room : ℕ) where
       go (done t) w e = absurd (refused-done n p (length t) (sym e ∙ text-fits t out (length t) refl (le-trans (w t refl) h) .0))
 
 -- ---- a table of a sheet
-reading-stored : (F : TextFormat) (s t : List ℕ) → reading F s ≡ done t → Stored t
+reading-stored : (F : TextFormat) (s t : List ℕ) → reading F s ≡ done t → Stored (F .format) (F .options) s t
 unfolding reading
 reading-stored F s t e = go (ltb 3277604 (length s)) e
   where
-    go : (b : Bool) → cond b (refused 15 3277604) (sheetTable (F .format) (F .options) s (tableSize 400)) ≡ done t → Stored t
+    go : (b : Bool) → cond b (refused 15 3277604) (sheetTable (F .format) (F .options) s (tableSize 400)) ≡ done t → Stored (F .format) (F .options) s t
     go true e = absurd (refused-done 15 3277604 t e)
     go false e = stored (F .format) (F .options) s (tableSize 400) t e
 
@@ -116,6 +118,17 @@ pub rewriting-refused : (F G : TextFormat) (s : List ℕ) (n p : ℕ) → readin
 unfolding rewriting
 rewriting-refused F G s n p e = rw e
 
+-- it is never refused by a format that is taken
+pub rewriting-again : (F G : TextFormat) (s t : List ℕ) → reading F s ≡ done t → (row : Pair) → sheetFormat (G .format) (G .options) ≡ done row → (text : List ℕ) × (rewriting F G s ≡ done text)
+unfolding reading
+rewriting-again F G s t e row f = go (ltb 3277604 (length s)) refl e
+  where
+    go : (b : Bool) → ltb 3277604 (length s) ≡ b → cond b (refused 15 3277604) (sheetTable (F .format) (F .options) s (tableSize 400)) ≡ done t → (text : List ℕ) × (rewriting F G s ≡ done text)
+    go true q p = absurd (refused-done 15 3277604 t p)
+    go false q p =
+        let again = sheet-again (F .format) (F .options) s (tableSize 400) t p (G .format) (G .options) row f in
+        (again .0, rewriting-done F G s t e ∙ again .1)
+
 pub same-rows : (F G : TextFormat) (s : List ℕ) → SameRows F G s
 unfolding rewriting
 same-rows F G s text e = go (reading F s) refl e
@@ -133,7 +146,7 @@ put-line d out n p r h = (omega (arith, h .next-is), h .out-is ∙ put-front d (
 
 -- what was put of an answer, where the answer and the bytes are those of what was asked for
 pub put-shown : (asked : Answer (List ℕ)) (d mid out : List ℕ) (room : ℕ) (a : Answer ℕ) (r : ℕ) → room ≤ length d → Within room asked
-    → (a ≡ written asked d) × (mid ≡ held asked d) → (r ≡ putCount a) × (out ≡ putBytes a mid) → (r ≡ shownLength room asked d) × (out ≡ shownBytes room asked d)
+    → (a ≡ written asked d) × (mid ≡ held asked d) → (r ≡ putCount a) × (out ≡ putBytes a mid) → (done r ≡ shown room asked d) × (out ≡ shownBytes room asked d)
 put-shown asked d mid out room a r h within e p =
-    let k = shown asked d room h within in
-    (p .0 ∙ ap putCount (e .0) ∙ k .0, p .1 ∙ rw (e .0, e .1) (k .1))
+    let k = shows asked d room h within in
+    (ap done (p .0 ∙ ap putCount (e .0)) ∙ k .0, p .1 ∙ rw (e .0, e .1) (k .1))

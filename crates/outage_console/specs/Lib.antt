@@ -1,2 +1,3 @@
 pub mod Screen
+pub mod Week
 pub mod Code

@@ -33,9 +33,9 @@ reading F s = cond (ltb 3277604 (length s)) (refused 15 3277604) (sheetTable (F 
 unfoldable pub rewriting : TextFormat → TextFormat → List ℕ → Answer (List ℕ)
 rewriting F G s = andThen (reading F s) (tableSheet (G .format) (G .options))
 
--- ---- what is shown in the bytes lent, of which there have to be `room`; in fewer, nothing
-abbrev pub shownLength : ℕ → Answer (List ℕ) → List ℕ → ℕ
-shownLength room asked out = cond (leb room (length out)) (length (screen asked)) 0
+-- ---- what is shown in the bytes lent: how many bytes, of what is asked for or of the refusal's line. 8: fewer than `room` bytes lent, so that nothing is shown
+abbrev pub shown : ℕ → Answer (List ℕ) → List ℕ → Answer ℕ
+shown room asked out = cond (leb room (length out)) (done (length (screen asked))) (refused 8 0)
 
 abbrev pub shownBytes : ℕ → Answer (List ℕ) → List ℕ → List ℕ
 shownBytes room asked out = cond (leb room (length out)) (screen asked ++ drop (length (screen asked)) out) out

@@ -1,6 +1,7 @@
 // Reads a table from standard input and prints its sheet, or the refusal.
 ghost use mathlib.Core.Path.{_≡_};
 ghost use lib.ListN.{length};
+use lexical_util::Written;
 use libc::STDIN_FILENO;
 use libc::STDOUT_FILENO;
 
@@ -18,12 +19,20 @@ fn output() -> [u8; 1820804]
     [0; 1820804]
 }
 
+// The bytes shown.
+fn write(shown: Written, out: &[u8]) {
+    let Written::Length(count) = shown else {
+        return;
+    };
+    if count <= out.len() {
+        io::write_all(STDOUT_FILENO, &out[0..count]);
+    }
+}
+
 fn main() {
     let mut table = input();
     let n = io::read_full(STDIN_FILENO, &mut table);
     let mut out = output();
     let shown = outage_console::print_sheet(&table[0..n], &mut out);
-    if shown <= out.len() {
-        io::write_all(STDOUT_FILENO, &out[0..shown]);
-    }
+    write(shown, &out);
 }

@@ -2,6 +2,7 @@
 ghost use mathlib.Core.Path.{_≡_};
 ghost use lib.ListN.{length};
 use lexical_rewriting::TextFormat;
+use lexical_util::Written;
 use libc::STDERR_FILENO;
 use libc::STDIN_FILENO;
 use libc::STDOUT_FILENO;
@@ -22,14 +23,22 @@ fn output() -> [u8; 6408]
     [0; 6408]
 }
 
+// The bytes shown.
+fn write(shown: Written, out: &[u8]) {
+    let Written::Length(count) = shown else {
+        return;
+    };
+    if count <= out.len() {
+        io::write_all(STDOUT_FILENO, &out[0..count]);
+    }
+}
+
 fn run(format: TextFormat) {
     let mut sheet = input();
     let n = io::read_full(STDIN_FILENO, &mut sheet);
     let mut out = output();
     let shown = outage_console::read_sheet(&sheet[0..n], format, &mut out);
-    if shown <= out.len() {
-        io::write_all(STDOUT_FILENO, &out[0..shown]);
-    }
+    write(shown, &out);
 }
 
 fn usage() {

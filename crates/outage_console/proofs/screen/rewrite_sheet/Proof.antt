@@ -5,11 +5,12 @@ use mathlib.Core.List.{List}
 use native.Mathlib.Omega.{arith}
 use borrow.Author.Tests.{le-leb}
 use lib.ListN.{length, take, replicate, length-replicate}
-use Rattle.lexical_util.specs.Answer.{ofWritten}
+use Rattle.lexical_util.specs.Answer.{done, ofWritten}
 use Rattle.outage.specs.Calls.{tableSheet}
 use Rattle.outage.proofs.LengthLaws.{sheet-short}
 use Rattle.outage_console.specs.Screen.{reading, rewriting}
 use Rattle.outage_console.proofs.ScreenLaws.{Got, got, not-got, nothing, put-line, put-shown, reading-within, rewriting-done, rewriting-refused, same-rows}
+use Rattle.outage_console.proofs.WeekLaws.{sheet-returns}
 use borrow.Author.Needs.{needs}
 use Rattle.outage_console.proofs.screen.rewrite_sheet.Statement.{statement}
 use Rattle.outage_console.proofs.screen.rewrite_sheet.Tie as tie
@@ -34,7 +35,7 @@ returns : tie.Need-returns
 returns c =
     let a = c .before .before .before .args in
     let k = nothing (rewriting (a .from) (a .to) (a .sheet .now)) (a .out .now) 1820804 (omega (arith, c .if1 .taken)) in
-    (k .0, (k .1, same-rows (a .from) (a .to) (a .sheet .now)))
+    (k .0, (k .1, (same-rows (a .from) (a .to) (a .sheet .now), sheet-returns (a .from) (a .sheet .now))))
 
 slice-aggregate-table-of : tie.Need-slice-aggregate-table-of
 slice-aggregate-table-of c = search needs
@@ -89,7 +90,7 @@ returns-2 c =
     let same = ap (tableSheet (a .to .format) (a .to .options)) front ∙ sym is in
     let e = rw same at (w .table-to-sheet .ensures) in
     let shown = put-shown (rewriting (a .from) (a .to) (a .sheet .now)) (a .out .now) _ _ 1820804 _ _ (omega arith) (λ text q. sheet-short (a .to .format) (a .to .options) (g .bytes) text (sym is ∙ q)) (e .0, e .1 .0) (p .put-answer .ensures) in
-    (shown .0, (shown .1, same-rows (a .from) (a .to) (a .sheet .now)))
+    (shown .0, (shown .1, (same-rows (a .from) (a .to) (a .sheet .now), sheet-returns (a .from) (a .sheet .now))))
 
 same-length-2 : tie.Need-same-length-2
 same-length-2 c = search needs
@@ -105,7 +106,7 @@ returns-3 c =
     let is = rewriting-refused F (a .to) (a .sheet .now) _ _ no in
     let line = put-line _ _ _ _ _ (p .put-refusal .ensures) in
     let enough = le-leb 1820804 (length (a .out .now)) (omega arith) in
-    (rw (is, enough) (line .0), (rw (is, enough) (line .1), same-rows F (a .to) (a .sheet .now)))
+    (rw (is, enough) (ap done (line .0)), (rw (is, enough) (line .1), (same-rows F (a .to) (a .sheet .now), sheet-returns F (a .sheet .now))))
 
 pub rewrite-sheet-spec : {M : Type 1} → statement M
 rewrite-sheet-spec =
