@@ -2,11 +2,10 @@
 use Prim.Native.Nat.{ℕ, _+_, _-_, _≤_, _<_}
 use mathlib.Core.Path.{_≡_, sym, ap, _∙_}
 use mathlib.Core.List.{List, _∷_}
-use native.Mathlib.Nat.{le-of-eq}
 use native.Mathlib.Omega.{arith}
 use borrow.Author.Tests.{lt-ltb, le-ltb}
 use lib.ListN.{length, take, drop, length-drop, length-replicate}
-use lib.Seq.{take-all, drop-drop}
+use lib.Seq.{drop-drop}
 use lib.Ieee.{Format}
 use Rattle.lexical_rewriting.specs.declared.text_format.TextFormat.{TextFormat}
 use Rattle.lexical_rewriting.specs.Rewrite.{Rewriting, rewritten, readingRefused, writingRefused, readIn, rewriteAnswer, rewriteBytes}
@@ -16,10 +15,6 @@ use Rattle.lexical_rewriting.proofs.StationLaws.{answer-alike, bytes-alike}
 use Rattle.lexical_rewriting.proofs.DemandLaws.{last-buffer}
 use Rattle.lexical_rewriting.proofs.RecordLaws.{no-records, more-records}
 use Rattle.lexical_rewrite.specs.Code.{onFrom, sourceAt}
-
--- ---- what stands from a place on
-pub rest-is : (n : ℕ) (l : List ℕ) → take (length l - n) (drop n l) ≡ drop n l
-rest-is n l = take-all (length l - n) (drop n l) (le-of-eq (length-drop n l))
 
 -- ---- the formats of the stations given
 abbrev chainOn : Format → ℕ → TextFormat → List ℕ → TextFormat → List TextFormat → List ℕ → Outcome

@@ -31,14 +31,13 @@ use Rattle.outage.proofs.StoredLaws.{column-length, table-length, store
 use Rattle.outage.proofs.FormatLaws.{taken}
 use Rattle.outage.proofs.TextLaws.{plain-text}
 use Rattle.outage.proofs.TableLaws.{value-plain}
+use Rattle.outage.proofs.RowLaws.{Sound}
 
 -- ---- what is known of a window that was read
-pub record Good (w : Window) : Type 0 where
-  pub start-fits : T (fits binary64 (w .start))
-  pub end-fits : T (fits binary64 (w .end))
+record Good (w : Window) : Type 0 where
+  pub sound : Sound w
   pub start-plain : isPlain (w .start) ≡ true
   pub end-plain : isPlain (w .end) ≡ true
-  pub ordered : lt (w .end) (w .start) ≡ false
 
 abbrev OfRow : Answer Window → Type 0
 OfRow (done w) = Good w
@@ -71,11 +70,9 @@ module _ (F : NumberFormat) (o : Options) where
           let m = read-is-nearest binary64 F o s x f .nearest in
           let n = read-is-nearest binary64 F o e y g .nearest in
           record {
-            start-fits = m .held;
-            end-fits = n .held;
+            sound = record { start-fits = m .held; end-fits = n .held; ordered = q };
             start-plain = value-plain x false _ _ (m .signed);
             end-plain = value-plain y false _ _ (n .signed);
-            ordered = q;
           }
 
       go : (a : Answer Float) → readFloat binary64 F o s ≡ a → (b : Answer Float) → readFloat binary64 F o e ≡ b
@@ -93,7 +90,7 @@ module _ (F : NumberFormat) (o : Options) where
       row-checked ((15, lacks 10 l) ∷ []) (lineWindow F o above line)
       (row-checked ((15, lacks 32 line) ∷ (15, not (lacks 32 e)) ∷ []) (fieldsWindow F o above s e) (fields-good above s e))
 
-  pub lines-good : (k p : ℕ) (above : Option Window) (l : List ℕ) → OfRows (linesFrom F o k p above l)
+  lines-good : (k p : ℕ) (above : Option Window) (l : List ℕ) → OfRows (linesFrom F o k p above l)
   unfolding linesFrom
   lines-good zero p above [] = tt
   lines-good zero p above (x ∷ xs) = tt
@@ -163,12 +160,12 @@ module _ (pre : List Window) (w : Window) (ws : List Window) (good : Good w) whe
   table-ends : tableOf all ≡ (head ++ columnBytes (λ v. v .start) all) ++ (columnBytes (λ v. v .end) all ++ [])
   table-ends = table-parts ∙ sym (append-assoc head (columnBytes (λ v. v .start) all) (columnBytes (λ v. v .end) all ++ []))
 
-  pub row-again : rowAt (tableOf all) (length all) (length pre) ≡ done w
+  row-again : rowAt (tableOf all) (length all) (length pre) ≡ done w
   row-again =
-      let start = column-again (λ v. v .start) head (columnBytes (λ v. v .end) all ++ []) 8 (good .start-fits) table-parts head-length in
+      let start = column-again (λ v. v .start) head (columnBytes (λ v. v .end) all ++ []) 8 (good .sound .start-fits) table-parts head-length in
       let size : length (head ++ columnBytes (λ v. v .start) all) ≡ 8 + 8 * length all = omega (arith, length-append head (columnBytes (λ v. v .start) all), head-length, column-length (λ v. v .start) all) in
-      let end = column-again (λ v. v .end) (head ++ columnBytes (λ v. v .start) all) [] (8 + 8 * length all) (good .end-fits) table-ends size in
-      rw (start, end, good .start-plain, good .end-plain, good .ordered)
+      let end = column-again (λ v. v .end) (head ++ columnBytes (λ v. v .start) all) [] (8 + 8 * length all) (good .sound .end-fits) table-ends size in
+      rw (start, end, good .start-plain, good .end-plain, good .sound .ordered)
 
 rows-again : (ws pre : List Window) → All Good ws → rowsFrom (tableOf (pre ++ ws)) (length (pre ++ ws)) (length pre) (length ws) ≡ done ws
 unfolding rowsFrom
@@ -181,7 +178,7 @@ rows-again (w ∷ ws) pre h =
     (subst (λ (l : List Window). rowsFrom (tableOf l) (length l) (length (pre ++ (w ∷ []))) (length ws) ≡ done ws) same (rows-again ws (pre ++ (w ∷ [])) (h .1))) in
     rw (row-again pre w ws (h .0), ih)
 
-pub windows-again : (ws : List Window) → All Good ws → length ws ≤ 400 → tableWindows (tableOf ws) ≡ done ws
+windows-again : (ws : List Window) → All Good ws → length ws ≤ 400 → tableWindows (tableOf ws) ≡ done ws
 unfolding tableWindows
 windows-again ws h few = rw (table-count ws few) (rows-again ws [] h)
 

@@ -14,7 +14,7 @@ use Rattle.lexical_format.proofs.FormatLaws.{neither, writable-reads}
 use Rattle.outage.specs.Calls.{sheetChecks, sheetFormat}
 
 -- what passes each check of a list passes the list
-pub all-passed : {A : Type 0} (cs : List Check) (a : Answer A) → Passed cs → checked cs a ≡ a
+all-passed : {A : Type 0} (cs : List Check) (a : Answer A) → Passed cs → checked cs a ≡ a
 all-passed [] a p = refl
 all-passed (c ∷ cs) a p = rw (p .0) (all-passed cs a (p .1))
 

@@ -74,7 +74,7 @@ module _ (F : NumberFormat) (o : Options) (row : Pair) (F-taken : Taken F o row)
       go (done s) f (done u) g e = record { start-text = s; end-text = u; is-start = f; is-end = g; is-row = sym (done-same (rowBytes s u) t e) }
 
   -- the row stands in front of other bytes
-  pub row-back : (above : Option Window) (w : Window) → Sound w → (t r : List ℕ) → Texts w t → (rowIn F o above (t ++ r) ≡ done w) × (length (before 10 (t ++ r)) + 1 ≡ length t)
+  row-back : (above : Option Window) (w : Window) → Sound w → (t r : List ℕ) → Texts w t → (rowIn F o above (t ++ r) ≡ done w) × (length (before 10 (t ++ r)) + 1 ≡ length t)
   row-back above w sound t r h =
       let s = h .start-text in
       let e = h .end-text in

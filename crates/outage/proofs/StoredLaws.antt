@@ -125,7 +125,7 @@ unfolding columnBytes
 column-bytes c [] = tt
 column-bytes c (w ∷ ws) = all-append (toBytes 8 (toBits binary64 (c w))) (columnBytes c ws) (to-bytes 8 (toBits binary64 (c w))) (column-bytes c ws)
 
-pub table-bytes : (ws : List Window) → AreBytes (tableOf ws)
+table-bytes : (ws : List Window) → AreBytes (tableOf ws)
 unfolding tableOf
 table-bytes ws =
     let starts = columnBytes (λ w. w .start) ws in

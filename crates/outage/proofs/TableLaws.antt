@@ -61,7 +61,7 @@ row-passes t n i v e =
       ordered = k .0 .1 .1 .0;
     }
 
-pub plain-no-nan : (x : Float) → isPlain x ≡ true → T (not (isNan x))
+plain-no-nan : (x : Float) → isPlain x ≡ true → T (not (isNan x))
 unfolding isNan
 plain-no-nan nan e = subst T (sym e) tt
 plain-no-nan (inf s) e = tt

@@ -1,4 +1,4 @@
--- No byte below 33, a space or an LF say, stands in a text that was written: point and mark are checked, and digits and signs lie above. Assumes nothing.
+-- No byte below 33, a space or an LF say, stands in a text that was written: point and mark are checked, and digits and signs lie above. And which floats have a text. Assumes nothing.
 use Prim.Native.Nat.{ℕ, _+_, _≤_, _<_}
 use mathlib.Core.Path.{_≡_, refl, subst}
 use mathlib.Core.Bool.{Bool, true, false}
@@ -29,11 +29,11 @@ good-byte : (radix x : ℕ) → badByte radix x ≡ false → 33 ≤ x
 unfolding badByte
 good-byte radix x e = ltb-false x 33 (neither (ltb x 33) _ e .0)
 
-pub record Visible (o : Options) : Type 0 where
+record Visible (o : Options) : Type 0 where
   pub point : 33 ≤ o .«decimal_point»
   pub mark : 33 ≤ o .exponent
 
-pub visible : (F : NumberFormat) (o : Options) (row : Pair) → readingFormat F o ≡ done row → Visible o
+visible : (F : NumberFormat) (o : Options) (row : Pair) → readingFormat F o ≡ done row → Visible o
 unfolding readingFormat badBytes
 visible F o row e = go (pairOf F) e
   where

@@ -57,7 +57,7 @@ all-drop (suc k) [] h = tt
 all-drop (suc k) (b ∷ bs) h = all-drop k bs (h .1)
 
 -- one byte more in front
-pub bytes-front : (l : List ℕ) (j : ℕ) → j < length l → ofBytes (drop j l) ≡ getD l j 0 + 256 * ofBytes (drop (suc j) l)
+bytes-front : (l : List ℕ) (j : ℕ) → j < length l → ofBytes (drop j l) ≡ getD l j 0 + 256 * ofBytes (drop (suc j) l)
 unfolding ofBytes
 bytes-front l j h = rw (drop-cons l j 0 h)
 
@@ -69,7 +69,7 @@ pub bytes-none : (n : ℕ) → toBytes 0 n ≡ []
 unfolding toBytes
 bytes-none n = refl
 
-pub bytes-nil : (l : List ℕ) (k : ℕ) → drop k l ≡ [] → ofBytes (drop k l) ≡ 0
+bytes-nil : (l : List ℕ) (k : ℕ) → drop k l ≡ [] → ofBytes (drop k l) ≡ 0
 unfolding ofBytes
 bytes-nil l k e = rw e
 

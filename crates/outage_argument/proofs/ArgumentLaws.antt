@@ -4,8 +4,8 @@ use mathlib.Core.Path.{_≡_, refl, sym}
 use mathlib.Core.List.{List, []}
 use mathlib.Core.Option.{Option, none, some}
 use native.Mathlib.Omega.{arith}
-use lib.ListN.{length, take, drop, length-drop, drop-of-length-le}
-use lib.Seq.{take-all}
+use borrow.Rule.Slice.PartAt.{part-to-end}
+use lib.ListN.{length, take, drop, drop-of-length-le}
 use Rattle.lexical_util.specs.Answer.{Answer, done, refused, andThen}
 use Rattle.lexical_format.specs.declared.checks.CheckedFormat.{CheckedFormat}
 use Rattle.lexical_format.specs.declared.format.Pair.{Pair}
@@ -36,7 +36,7 @@ module _ (F : TextFormat) where
 
 -- ---- the slices that the code takes
 pub behind : (text : List ℕ) (k : ℕ) → k ≡ length (before 47 text) → drop (length (before 47 text) + 1) text ≡ take (length text - (k + 1)) (drop (k + 1) text)
-behind text k e = rw (sym e) (sym (take-all (length text - (k + 1)) (drop (k + 1) text) (simp length-drop (omega arith))))
+behind text k e = rw (sym e) (sym (part-to-end text (k + 1)))
 
 pub in-front : (text : List ℕ) (k : ℕ) → k ≡ length (before 47 text) → take (k - 0) text ≡ before 47 text
 in-front text k e =

@@ -7,7 +7,7 @@ use native.Mathlib.Nat.{le-trans}
 use native.Mathlib.Omega.{arith}
 use borrow.Author.Tests.{le-leb, lt-leb, le-ltb, lt-ltb}
 use lib.Dec.{leb, ltb}
-use lib.ListN.{length, take, drop, length-append}
+use lib.ListN.{length, take, drop}
 use lib.Seq.{take-append-seam}
 use Rattle.lexical_util.specs.Answer.{Answer, done, refused, andThen, written, held}
 use Rattle.lexical_util.proofs.AnswerLaws.{refused-done, done-same, text-fits}
@@ -32,10 +32,6 @@ number-short : (k x : ℕ) → x < 10 ^ (k + 1) → length (numeral 10 x) ≤ k 
 number-short k x h =
     let e : k + 1 ≡ suc k = omega arith in
     rw (length-numeral 10 x, e) (count-le 10 (omega arith) k x (rw e at h))
-
-pub line-length : (n p : ℕ) → length (refusalLine n p) ≡ 13 + length (numeral 10 n) + length (numeral 10 p)
-unfolding refusalLine
-line-length n p = simp length-append (omega arith)
 
 pub line-short : (n p : ℕ) → n < 4294967296 → p < 18446744073709551616 → (length (numeral 10 n) ≤ 10) × (length (numeral 10 p) ≤ 20)
 line-short n p h k = (number-short 9 n (omega arith), number-short 19 p (omega arith))

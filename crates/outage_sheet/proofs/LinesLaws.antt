@@ -25,26 +25,26 @@ module _ (F : NumberFormat) (o : Options) where
 
   -- ---- row i of n, which stands at p in the sheet and whose LF stands m bytes on
   module _ (s : List ℕ) (n i p : ℕ) where
-    pub lines-more : (w : Window) (m : ℕ) → i < n → m ≡ length (before 10 (drop p s)) → rowIn F o none (drop p s) ≡ done w
+    lines-more : (w : Window) (m : ℕ) → i < n → m ≡ length (before 10 (drop p s)) → rowIn F o none (drop p s) ≡ done w
         → linesFrom F o (n - i) p none (drop p s) ≡ withRow w (linesFrom F o (n - (i + 1)) (p + (m + 1)) none (drop (p + (m + 1)) s))
     unfolding linesFrom
     lines-more w m h f e =
         let z : n - i ≡ suc (n - (i + 1)) = omega arith in
         rw (z, e, ← f, drop-drop (m + 1) p s, lines-above (n - (i + 1)) (p + (m + 1)) (some w) none (drop (p + (m + 1)) s))
 
-    pub lines-stop : (k q : ℕ) → i < n → rowIn F o none (drop p s) ≡ refused k q → linesFrom F o (n - i) p none (drop p s) ≡ refused k (p + q)
+    lines-stop : (k q : ℕ) → i < n → rowIn F o none (drop p s) ≡ refused k q → linesFrom F o (n - i) p none (drop p s) ≡ refused k (p + q)
     unfolding linesFrom
     lines-stop k q h e =
         let z : n - i ≡ suc (n - (i + 1)) = omega arith in
         rw (z, e)
 
-    pub lines-extra : n ≤ i → p < length s → linesFrom F o (n - i) p none (drop p s) ≡ refused 15 p
+    lines-extra : n ≤ i → p < length s → linesFrom F o (n - i) p none (drop p s) ≡ refused 15 p
     unfolding linesFrom
     lines-extra h k =
         let z : n - i ≡ 0 = omega arith in
         rw (z, drop-cons s p 0 k)
 
-    pub lines-end : n ≤ i → length s ≤ p → linesFrom F o (n - i) p none (drop p s) ≡ done []
+    lines-end : n ≤ i → length s ≤ p → linesFrom F o (n - i) p none (drop p s) ≡ done []
     unfolding linesFrom
     lines-end h k =
         let z : n - i ≡ 0 = omega arith in

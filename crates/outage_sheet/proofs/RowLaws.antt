@@ -5,10 +5,10 @@ use mathlib.Core.Bool.{Bool, true, false, not, cond}
 use mathlib.Core.List.{List, [], _∷_}
 use mathlib.Core.Option.{Option, none, some}
 use native.Mathlib.Omega.{arith}
+use borrow.Rule.Slice.PartAt.{part-to-end}
 use borrow.Author.Tests.{eq-eqb, ne-eqb, eqb-true, eqb-false}
 use lib.Dec.{T, ltb, eqb}
 use lib.ListN.{length, take, drop, length-drop}
-use lib.Seq.{take-all}
 use lib.Ieee.{Float, binary64, isNan}
 use Rattle.lexical_util.specs.Answer.{Answer, done, refused, andThen, Check, checked}
 use Rattle.lexical_util.proofs.AnswerLaws.{refused-done}
@@ -134,7 +134,7 @@ module _ (F : NumberFormat) (o : Options) where
             within-checked Stored (length l) ((15, not (lacks 32 e)) ∷ []) (fieldsWindow F o above s e)
             (within-more Stored (length s + 1 + length e) (length l) (omega (arith, before-le 32 l, length-drop (length s + 1) l, d)) (fieldsWindow F o above s e) (fields-within s e))
 
-    pub row-within : (l : List ℕ) → Within Stored (length l) (rowIn F o above l)
+    row-within : (l : List ℕ) → Within Stored (length l) (rowIn F o above l)
     unfolding rowIn
     row-within l =
         within-checked Stored (length l) ((15, lacks 10 l) ∷ []) (lineWindow F o above (before 10 l))
@@ -155,10 +155,6 @@ module _ (F : NumberFormat) (o : Options) (s e : List ℕ) where
   fields-both x y f g = rw (f, g)
 
 -- ---- a line, whose first space the code found at m
--- the rest of a slice from k on, as a part of it
-pub part-all : (l : List ℕ) (k : ℕ) → k ≤ length l → take (length l - k) (drop k l) ≡ drop k l
-part-all l k h = take-all (length l - k) (drop k l) (omega (arith, length-drop k l))
-
 module _ (F : NumberFormat) (o : Options) (line : List ℕ) where
   pub line-none : length (before 32 line) ≡ length line → lineWindow F o none line ≡ refused 15 0
   unfolding lineWindow
@@ -189,11 +185,11 @@ module _ (F : NumberFormat) (o : Options) (line : List ℕ) where
 -- ---- the row that stands at p in a sheet, where the code was lent the part from there on
 module _ (F : NumberFormat) (o : Options) (s : List ℕ) (p : ℕ) (h : p ≤ length s) where
   pub end-there : (m : ℕ) → m ≡ length (before 10 (take (length s - p) (drop p s))) → m ≡ length (before 10 (drop p s))
-  end-there m e = e ∙ ap (λ (l : List ℕ). length (before 10 l)) (part-all s p h)
+  end-there m e = e ∙ ap (λ (l : List ℕ). length (before 10 l)) (part-to-end s p)
 
   module _ (x a : Answer Window) (e : x ≡ rowIn F o none (take (length s - p) (drop p s))) (f : x ≡ a) where
     pub row-there : rowIn F o none (drop p s) ≡ a
-    row-there = sym (ap (rowIn F o none) (part-all s p h)) ∙ sym e ∙ f
+    row-there = sym (ap (rowIn F o none) (part-to-end s p)) ∙ sym e ∙ f
 
     pub row-known : Within Stored (length s - p) a
     row-known = rw (← length-drop p s) (subst (Within Stored (length (drop p s))) row-there (row-within F o none (drop p s)))

@@ -3,8 +3,8 @@ use mathlib.Core.Path.{ap, _∙_}
 use mathlib.Core.List.{List}
 use Prim.Native.Nat.{ℕ}
 use borrow.Author.Needs.{needs}
+use borrow.Rule.Slice.PartAt.{part-to-end}
 use Rattle.lexical_rewriting.specs.Record.{formatOf}
-use Rattle.lexical_rewrite.proofs.ChainLaws.{rest-is}
 use Rattle.lexical_rewrite.proofs.chain.format_at.Statement.{statement}
 use Rattle.lexical_rewrite.proofs.chain.format_at.Tie as tie
 
@@ -21,7 +21,7 @@ format-of-requires : tie.Need-format-of-requires
 format-of-requires c κs = search needs
 
 returns : tie.Need-returns
-returns c = c .format-of .ensures ∙ ap (λ (l : List ℕ). formatOf l) (rest-is (c .before .before .before .args .at) (c .before .before .before .args .bytes .now))
+returns c = c .format-of .ensures ∙ ap (λ (l : List ℕ). formatOf l) (part-to-end (c .before .before .before .args .bytes .now) (c .before .before .before .args .at))
 
 pub format-at-spec : {M : Type 1} → statement M
 format-at-spec =

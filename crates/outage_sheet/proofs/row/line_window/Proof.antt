@@ -4,8 +4,9 @@ use mathlib.Core.Path.{sym, ap}
 use native.Mathlib.Omega.{arith}
 use lib.ListN.{length, length-drop}
 use lib.Seq.{length-take-le}
-use Rattle.outage_sheet.proofs.RowLaws.{part-all, line-none, line-more, line-one}
+use Rattle.outage_sheet.proofs.RowLaws.{line-none, line-more, line-one}
 use borrow.Author.Needs.{needs}
+use borrow.Rule.Slice.PartAt.{part-to-end}
 use Rattle.outage_sheet.proofs.row.line_window.Statement.{statement}
 use Rattle.outage_sheet.proofs.row.line_window.Tie as tie
 
@@ -37,7 +38,7 @@ returns-2 c =
     let a = c .before .before .before .before .before .before .args in
     let f = c .before .before .before .before .find in
     let g = c .before .find2 in
-    sym (line-more (a .format) (a .options) (a .line .now) (f .result) (f .ensures .0) (c .before .before .before .if1 .left) _ (part-all (a .line .now) (f .result + 1) (omega arith)) (λ e. omega (arith, e, g .ensures .0)))
+    sym (line-more (a .format) (a .options) (a .line .now) (f .result) (f .ensures .0) (c .before .before .before .if1 .left) _ (part-to-end (a .line .now) (f .result + 1)) (λ e. omega (arith, e, g .ensures .0)))
 
 slice-aggregate-fields-window : tie.Need-slice-aggregate-fields-window
 slice-aggregate-fields-window c = sym (length-take-le _ _ (omega arith))
@@ -47,14 +48,14 @@ fields-window-requires c κs =
     let s = c .before .before .before .before .before .before .before in
     let m = c .before .before .before .before .before .find .result in
     let l = s .args .line .now in
-    omega (arith, length-take-le m l (omega arith), ap length (part-all l (m + 1) (omega arith)), length-drop (m + 1) l)
+    omega (arith, length-take-le m l (omega arith), ap length (part-to-end l (m + 1)), length-drop (m + 1) l)
 
 returns-3 : tie.Need-returns-3
 returns-3 c =
     let a = c .before .before .before .before .before .before .before .before .args in
     let f = c .before .before .before .before .before .before .find in
     let g = c .before .before .before .find2 in
-    line-one (a .format) (a .options) (a .line .now) (f .result) (f .ensures .0) (c .before .before .before .before .before .if1 .left) _ (part-all (a .line .now) (f .result + 1) (omega arith)) (omega (arith, g .ensures .0, c .before .before .if2 .left)) _ (c .fields-window .ensures)
+    line-one (a .format) (a .options) (a .line .now) (f .result) (f .ensures .0) (c .before .before .before .before .before .if1 .left) _ (part-to-end (a .line .now) (f .result + 1)) (omega (arith, g .ensures .0, c .before .before .if2 .left)) _ (c .fields-window .ensures)
 
 pub line-window-spec : {M : Type 1} → statement M
 line-window-spec =
