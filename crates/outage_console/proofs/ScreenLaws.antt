@@ -5,9 +5,9 @@ use mathlib.Core.Bool.{Bool, true, false, cond}
 use mathlib.Core.List.{List, _++_}
 use native.Mathlib.Nat.{le-trans}
 use native.Mathlib.Omega.{arith}
-use borrow.Author.Tests.{le-leb, lt-leb, le-ltb, lt-ltb}
-use lib.Dec.{leb, ltb}
-use lib.ListN.{length, take, drop}
+use borrow.Author.Tests.{le-ltb, lt-ltb}
+use lib.Dec.{ltb}
+use lib.ListN.{length, take, drop, length-append}
 use lib.Seq.{take-append-seam}
 use Rattle.lexical_util.specs.Answer.{Answer, done, refused, andThen, written, held}
 use Rattle.lexical_util.proofs.AnswerLaws.{refused-done, done-same, text-fits}
@@ -24,7 +24,7 @@ use Rattle.outage.proofs.LengthLaws.{sheet-short}
 use Rattle.outage.proofs.RoomLaws.{room-enough}
 use Rattle.outage.proofs.StoredLaws.{Stored, stored}
 use Rattle.outage.proofs.WayBackLaws.{table-again}
-use Rattle.outage_console.specs.Screen.{refusalLine, reading, rewriting, shown, shownBytes, SameRows}
+use Rattle.outage_console.specs.Screen.{refusalLine, screen, reading, rewriting, shown, SameRows}
 use Rattle.outage_console.specs.Code.{putCount, putBytes}
 
 -- ---- a refusal's line
@@ -41,20 +41,12 @@ abbrev pub Within : ℕ → Answer (List ℕ) → Type 0
 Within room asked = (t : List ℕ) → asked ≡ done t → length t ≤ room
 
 module _ (asked : Answer (List ℕ)) (out : List ℕ) (room : ℕ) where
-  shows : room ≤ length out → Within room asked → (done (putCount (written asked out)) ≡ shown room asked out) × (putBytes (written asked out) (held asked out) ≡ shownBytes room asked out)
+  shows : room ≤ length out → Within room asked → (putCount (written asked out) ≡ length (screen asked)) × (putBytes (written asked out) (held asked out) ≡ shown asked out)
   shows h within = go asked within
     where
-      enough : leb room (length out) ≡ true
-      enough = le-leb room (length out) h
-
-      go : (a : Answer (List ℕ)) → Within room a → (done (putCount (written a out)) ≡ shown room a out) × (putBytes (written a out) (held a out) ≡ shownBytes room a out)
-      go (done t) w =
-          let fits = text-fits t out (length t) refl (le-trans (w t refl) h) in
-          (rw (enough, fits .0), rw (enough, fits .0, fits .1))
-      go (refused n p) w = (rw enough, rw enough)
-
-  pub nothing : length out < room → (refused 8 0 ≡ shown room asked out) × (out ≡ shownBytes room asked out)
-  nothing h = (rw (lt-leb room (length out) h), rw (lt-leb room (length out) h))
+      go : (a : Answer (List ℕ)) → Within room a → (putCount (written a out) ≡ length (screen a)) × (putBytes (written a out) (held a out) ≡ shown a out)
+      go (done t) w = let fits = text-fits t out (length t) refl (le-trans (w t refl) h) in (rw (fits .0), rw (fits .0, fits .1))
+      go (refused n p) w = (refl, refl)
 
   -- what such an answer tells of what was asked for
   pub record Got (m : ℕ) : Type 0 where
@@ -140,9 +132,22 @@ same-rows F G s text e = go (reading F s) refl e
 pub put-line : (d out : List ℕ) (n p r : ℕ) → Puts d 0 (refusalLine n p) r out → (r ≡ length (refusalLine n p)) × (out ≡ refusalLine n p ++ drop (length (refusalLine n p)) d)
 put-line d out n p r h = (omega (arith, h .next-is), h .out-is ∙ put-front d (refusalLine n p))
 
+-- what is shown of an answer
+pub record Shows (asked : Answer (List ℕ)) (d : List ℕ) (r : ℕ) (out : List ℕ) : Type 0 where
+  pub count : r ≡ length (screen asked)
+  pub bytes : out ≡ shown asked d
+  pub within : r ≤ length out
+
+pub shows-all : (asked : Answer (List ℕ)) (d : List ℕ) (r : ℕ) (out : List ℕ) → r ≡ length (screen asked) → out ≡ shown asked d → Shows asked d r out
+shows-all asked d r out e f = record { count = e; bytes = f; within = omega (arith, simp length-append at (ap length f)) }
+
+-- a refusal's line, where that refusal is the answer
+pub line-shown : (asked : Answer (List ℕ)) (d out : List ℕ) (n p r : ℕ) → asked ≡ refused n p → Puts d 0 (refusalLine n p) r out → Shows asked d r out
+line-shown asked d out n p r e h = let k = put-line d out n p r h in shows-all asked d r out (rw e (k .0)) (rw e (k .1))
+
 -- what was put of an answer, where the answer and the bytes are those of what was asked for
 pub put-shown : (asked : Answer (List ℕ)) (d mid out : List ℕ) (room : ℕ) (a : Answer ℕ) (r : ℕ) → room ≤ length d → Within room asked
-    → (a ≡ written asked d) × (mid ≡ held asked d) → (r ≡ putCount a) × (out ≡ putBytes a mid) → (done r ≡ shown room asked d) × (out ≡ shownBytes room asked d)
+    → (a ≡ written asked d) × (mid ≡ held asked d) → (r ≡ putCount a) × (out ≡ putBytes a mid) → Shows asked d r out
 put-shown asked d mid out room a r h within e p =
     let k = shows asked d room h within in
-    (ap done (p .0 ∙ ap putCount (e .0)) ∙ k .0, p .1 ∙ rw (e .0, e .1) (k .1))
+    shows-all asked d r out (p .0 ∙ ap putCount (e .0) ∙ k .0) (p .1 ∙ rw (e .0, e .1) (k .1))

@@ -3,7 +3,7 @@ use Prim.Native.Nat.{ℕ}
 use mathlib.Core.Path.{_≡_}
 use mathlib.Core.Bool.{cond}
 use mathlib.Core.List.{List, [], _∷_, _++_}
-use lib.Dec.{leb, ltb}
+use lib.Dec.{ltb}
 use lib.ListN.{length, drop}
 use Rattle.lexical_util.specs.Answer.{Answer, done, refused, andThen}
 use Rattle.lexical_digits.specs.Digits.{numeral}
@@ -16,6 +16,7 @@ use Rattle.outage.specs.Calls.{tableSheet, sheetTable}
 unfoldable pub refusalLine : ℕ → ℕ → List ℕ
 refusalLine n p = (114 ∷ 101 ∷ 102 ∷ 117 ∷ 115 ∷ 101 ∷ 100 ∷ 32 ∷ []) ++ (numeral 10 n ++ ((32 ∷ 97 ∷ 116 ∷ 32 ∷ []) ++ (numeral 10 p ++ (10 ∷ []))))
 
+-- what a program writes of an answer
 abbrev pub screen : Answer (List ℕ) → List ℕ
 screen (done bytes) = bytes
 screen (refused n p) = refusalLine n p
@@ -33,12 +34,9 @@ reading F s = cond (ltb 3277604 (length s)) (refused 15 3277604) (sheetTable (F 
 unfoldable pub rewriting : TextFormat → TextFormat → List ℕ → Answer (List ℕ)
 rewriting F G s = andThen (reading F s) (tableSheet (G .format) (G .options))
 
--- ---- what is shown in the bytes lent: how many bytes, of what is asked for or of the refusal's line. 8: fewer than `room` bytes lent, so that nothing is shown
-abbrev pub shown : ℕ → Answer (List ℕ) → List ℕ → Answer ℕ
-shown room asked out = cond (leb room (length out)) (done (length (screen asked))) (refused 8 0)
-
-abbrev pub shownBytes : ℕ → Answer (List ℕ) → List ℕ → List ℕ
-shownBytes room asked out = cond (leb room (length out)) (screen asked ++ drop (length (screen asked)) out) out
+-- what is shown stands at the front of the bytes lent, and behind it what they held
+abbrev pub shown : Answer (List ℕ) → List ℕ → List ℕ
+shown asked out = screen asked ++ drop (length (screen asked)) out
 
 -- a sheet rewritten in the format G is read back as the first one is
 abbrev pub SameRows : TextFormat → TextFormat → List ℕ → Type 0

@@ -3,7 +3,7 @@ ghost use mathlib.Core.Path.{_≡_};
 ghost use Prim.Native.Nat.{_≤_};
 ghost use lib.ListN.{length};
 ghost use Rattle.lexical_util.specs.Answer.{written, held, ofWritten};
-ghost use Rattle.outage_console.specs.Screen.{printing, reading, rewriting, shown, shownBytes, SameRows};
+ghost use Rattle.outage_console.specs.Screen.{printing, reading, rewriting, screen, shown, SameRows};
 ghost use Rattle.outage_console.specs.Code.{putCount, putBytes};
 ghost use Rattle.outage_console.specs.Week.{SheetReturns, TableReturns};
 use crate::refusal::put_refusal;
@@ -26,21 +26,16 @@ fn put_answer(out: &mut [u8], answer: Written) -> usize
     }
 }
 
-// The sheet of a table in 16/2, exponent radix 10, mark "p", exponent required, in at least 1,820,804 bytes, since no sheet is longer: how many bytes are shown, or 8.
-pub fn print_sheet(table: &[u8], out: &mut [u8]) -> Written
-    ensures { λ r. ⌜ ofWritten r ≡ shown 1820804 (printing (now (table .entry))) (now (out .entry)) ⌝ }
-    ensures { λ _. ⌜ now (out .exit) ≡ shownBytes 1820804 (printing (now (table .entry))) (now (out .entry)) ⌝ }
+// The sheet of a table in 16/2, exponent radix 10, mark "p", exponent required, or the refusal: how many bytes are shown. No sheet is longer than the bytes lent.
+pub fn print_sheet(table: &[u8], out: &mut [u8; 1820804]) -> usize
+    ensures { λ r. ⌜ r ≡ length (screen (printing (now (table .entry)))) ⌝ }
+    ensures { λ _. ⌜ now (out .exit) ≡ shown (printing (now (table .entry))) (now (out .entry)) ⌝ }
+    ensures within { λ r. ⌜ r ≤ length (now (out .exit)) ⌝ }
     ensures comes_back { λ _. ⌜ TableReturns (now (table .entry)) ⌝ }
 {
-    if out.len() < 1820804 {
-        return Written::Refused(Refusal {
-            number: 8,
-            place: 0,
-        });
-    }
     let printed = sheet_in(16, 2, 10);
     let answer = table_to_sheet(table, printed.format, printed.options, out);
-    Written::Length(put_answer(out, answer))
+    put_answer(out, answer)
 }
 
 // A sheet's table in bytes enough for any, unless the sheet is longer than any.
@@ -58,40 +53,35 @@ fn table_of(sheet: &[u8], format: TextFormat, table: &mut [u8]) -> Written
     sheet_to_table(sheet, format.format, format.options, table)
 }
 
-// The table of a sheet in a format, in at least 6,408 bytes, since no table is longer: how many bytes are shown, or 8.
-pub fn read_sheet(sheet: &[u8], format: TextFormat, out: &mut [u8]) -> Written
-    ensures { λ r. ⌜ ofWritten r ≡ shown 6408 (reading format (now (sheet .entry))) (now (out .entry)) ⌝ }
-    ensures { λ _. ⌜ now (out .exit) ≡ shownBytes 6408 (reading format (now (sheet .entry))) (now (out .entry)) ⌝ }
+// The table of a sheet in a format, or the refusal: how many bytes are shown. No table is longer than the bytes lent.
+pub fn read_sheet(sheet: &[u8], format: TextFormat, out: &mut [u8; 6408]) -> usize
+    ensures { λ r. ⌜ r ≡ length (screen (reading format (now (sheet .entry)))) ⌝ }
+    ensures { λ _. ⌜ now (out .exit) ≡ shown (reading format (now (sheet .entry))) (now (out .entry)) ⌝ }
+    ensures within { λ r. ⌜ r ≤ length (now (out .exit)) ⌝ }
 {
-    if out.len() < 6408 {
-        return Written::Refused(Refusal {
-            number: 8,
-            place: 0,
-        });
-    }
     let answer = table_of(sheet, format, out);
-    Written::Length(put_answer(out, answer))
+    put_answer(out, answer)
 }
 
-// A sheet in one format, with the same rows in another, in at least 1,820,804 bytes: how many bytes are shown, or 8.
-pub fn rewrite_sheet(sheet: &[u8], from: TextFormat, to: TextFormat, out: &mut [u8]) -> Written
-    ensures { λ r. ⌜ ofWritten r ≡ shown 1820804 (rewriting from to (now (sheet .entry))) (now (out .entry)) ⌝ }
-    ensures { λ _. ⌜ now (out .exit) ≡ shownBytes 1820804 (rewriting from to (now (sheet .entry))) (now (out .entry)) ⌝ }
+// A sheet in one format, with the same rows in another, or the refusal: how many bytes are shown.
+pub fn rewrite_sheet(
+    sheet: &[u8],
+    from: TextFormat,
+    to: TextFormat,
+    out: &mut [u8; 1820804],
+) -> usize
+    ensures { λ r. ⌜ r ≡ length (screen (rewriting from to (now (sheet .entry)))) ⌝ }
+    ensures { λ _. ⌜ now (out .exit) ≡ shown (rewriting from to (now (sheet .entry))) (now (out .entry)) ⌝ }
+    ensures within { λ r. ⌜ r ≤ length (now (out .exit)) ⌝ }
     ensures same_rows { λ _. ⌜ SameRows from to (now (sheet .entry)) ⌝ }
     ensures never_lost { λ _. ⌜ SheetReturns from (now (sheet .entry)) ⌝ }
 {
-    if out.len() < 1820804 {
-        return Written::Refused(Refusal {
-            number: 8,
-            place: 0,
-        });
-    }
     let mut table = [0u8; 6408];
     match table_of(sheet, from, &mut table) {
         Written::Length(count) => {
             let answer = table_to_sheet(&table[0..count], to.format, to.options, out);
-            Written::Length(put_answer(out, answer))
+            put_answer(out, answer)
         }
-        Written::Refused(refusal) => Written::Length(put_refusal(out, refusal)),
+        Written::Refused(refusal) => put_refusal(out, refusal),
     }
 }

@@ -1,44 +1,26 @@
 // Reads a sheet in a format from standard input and writes its table, or the refusal.
-ghost use mathlib.Core.Path.{_≡_};
+ghost use Prim.Native.Nat.{_≤_};
 ghost use lib.ListN.{length};
 use lexical_rewriting::TextFormat;
-use lexical_util::Written;
 use libc::STDERR_FILENO;
 use libc::STDIN_FILENO;
 use libc::STDOUT_FILENO;
 use outage_argument::Argument;
 use outage_argument::read_format;
 
-// The longest sheet, and one byte more, so that a longer input is seen.
-fn input() -> [u8; 3277605]
-    ensures { λ r. ⌜ 3277605 ≡ length r ⌝ }
+// All of standard input, up to the longest sheet that is read and one byte more, so that a longer input is seen.
+fn read(sheet: &mut [u8; 3277605]) -> usize
+    ensures { λ r. ⌜ r ≤ length (now (sheet .exit)) ⌝ }
 {
-    [0; 3277605]
-}
-
-// The longest table.
-fn output() -> [u8; 6408]
-    ensures { λ r. ⌜ 6408 ≡ length r ⌝ }
-{
-    [0; 6408]
-}
-
-// The bytes shown.
-fn write(shown: Written, out: &[u8]) {
-    let Written::Length(count) = shown else {
-        return;
-    };
-    if count <= out.len() {
-        io::write_all(STDOUT_FILENO, &out[0..count]);
-    }
+    io::read_full(STDIN_FILENO, sheet)
 }
 
 fn run(format: TextFormat) {
-    let mut sheet = input();
-    let n = io::read_full(STDIN_FILENO, &mut sheet);
-    let mut out = output();
+    let mut sheet = [0u8; 3277605];
+    let n = read(&mut sheet);
+    let mut out = [0u8; 6408];
     let shown = outage_console::read_sheet(&sheet[0..n], format, &mut out);
-    write(shown, &out);
+    io::write_all(STDOUT_FILENO, &out[0..shown]);
 }
 
 fn usage() {

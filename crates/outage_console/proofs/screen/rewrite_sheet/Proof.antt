@@ -3,13 +3,12 @@ use Prim.Native.Nat.{ℕ, _-_}
 use mathlib.Core.Path.{_≡_, sym, ap, _∙_}
 use mathlib.Core.List.{List}
 use native.Mathlib.Omega.{arith}
-use borrow.Author.Tests.{le-leb}
-use lib.ListN.{length, take, replicate, length-replicate}
-use Rattle.lexical_util.specs.Answer.{done, ofWritten}
+use lib.ListN.{take, replicate, length-replicate}
+use Rattle.lexical_util.specs.Answer.{ofWritten}
 use Rattle.outage.specs.Calls.{tableSheet}
 use Rattle.outage.proofs.LengthLaws.{sheet-short}
 use Rattle.outage_console.specs.Screen.{reading, rewriting}
-use Rattle.outage_console.proofs.ScreenLaws.{Got, got, not-got, nothing, put-line, put-shown, reading-within, rewriting-done, rewriting-refused, same-rows}
+use Rattle.outage_console.proofs.ScreenLaws.{Got, got, not-got, put-shown, line-shown, reading-within, rewriting-done, rewriting-refused, same-rows}
 use Rattle.outage_console.proofs.WeekLaws.{sheet-returns}
 use borrow.Author.Needs.{needs}
 use Rattle.outage_console.proofs.screen.rewrite_sheet.Statement.{statement}
@@ -17,7 +16,7 @@ use Rattle.outage_console.proofs.screen.rewrite_sheet.Tie as tie
 
 -- what the call was given
 abbrev start : tie.After-table-of → tie.Start
-start t = t .before .before .before .before .before
+start t = t .before .before .before
 
 -- bytes for the longest table
 abbrev fresh : List ℕ
@@ -30,12 +29,6 @@ table-got c =
     let t = c .before .before .before in
     let a = start t .args in
     got (reading (a .from) (a .sheet .now)) fresh 6408 (omega (arith, length-replicate {A = ℕ} 6408 0)) (reading-within (a .from) (a .sheet .now)) _ (sym (t .table-of .ensures .0) ∙ ap ofWritten (c .count .given .1))
-
-returns : tie.Need-returns
-returns c =
-    let a = c .before .before .before .args in
-    let k = nothing (rewriting (a .from) (a .to) (a .sheet .now)) (a .out .now) 1820804 (omega (arith, c .if1 .taken)) in
-    (k .0, (k .1, (same-rows (a .from) (a .to) (a .sheet .now), sheet-returns (a .from) (a .sheet .now))))
 
 slice-aggregate-table-of : tie.Need-slice-aggregate-table-of
 slice-aggregate-table-of c = search needs
@@ -72,47 +65,38 @@ enum-known-refusal c = search needs
 put-refusal-requires : tie.Need-put-refusal-requires
 put-refusal-requires c κs = search needs
 
-same-length : tie.Need-same-length
-same-length c = search needs
-
-returns-2 : tie.Need-returns-2
-returns-2 c =
-    let p = c .before .before in
-    let w = p .before .before .before .before in
+returns : tie.Need-returns
+returns c =
+    let w = c .before .before in
     let k = w .before .before .before .before .before in
     let t = k .before .before .before in
     let a = start t .args in
+    let s = a .sheet .now in
     let g = table-got k in
-    let is = rewriting-done (a .from) (a .to) (a .sheet .now) (g .bytes) (g .is) in
+    let is = rewriting-done (a .from) (a .to) s (g .bytes) (g .is) in
     let m = k .count .given .0 .0 in
     let all : m - 0 ≡ m = omega arith in
     let front : take (m - 0) (t .table-of .last .1 .1 .0) ≡ g .bytes = rw all (ap (take m) (t .table-of .ensures .1) ∙ g .front) in
     let same = ap (tableSheet (a .to .format) (a .to .options)) front ∙ sym is in
     let e = rw same at (w .table-to-sheet .ensures) in
-    let shown = put-shown (rewriting (a .from) (a .to) (a .sheet .now)) (a .out .now) _ _ 1820804 _ _ (omega arith) (λ text q. sheet-short (a .to .format) (a .to .options) (g .bytes) text (sym is ∙ q)) (e .0, e .1 .0) (p .put-answer .ensures) in
-    (shown .0, (shown .1, (same-rows (a .from) (a .to) (a .sheet .now), sheet-returns (a .from) (a .sheet .now))))
+    let h = put-shown (rewriting (a .from) (a .to) s) (a .out .now) _ _ 1820804 _ _ (omega arith) (λ text q. sheet-short (a .to .format) (a .to .options) (g .bytes) text (sym is ∙ q)) (e .0, e .1 .0) (c .put-answer .ensures) in
+    (h .count, (h .bytes, (h .within, (same-rows (a .from) (a .to) s, sheet-returns (a .from) s))))
 
-same-length-2 : tie.Need-same-length-2
-same-length-2 c = search needs
-
-returns-3 : tie.Need-returns-3
-returns-3 c =
-    let p = c .before .before in
-    let k = p .before .before .before in
+returns-2 : tie.Need-returns-2
+returns-2 c =
+    let k = c .before .before .before in
     let t = k .before .before .before in
     let a = start t .args in
     let F = a .from in
-    let no = not-got (reading F (a .sheet .now)) fresh 6408 (omega (arith, length-replicate {A = ℕ} 6408 0)) (reading-within F (a .sheet .now)) _ _ (sym (t .table-of .ensures .0) ∙ ap ofWritten (k .refusal .given .1)) in
-    let is = rewriting-refused F (a .to) (a .sheet .now) _ _ no in
-    let line = put-line _ _ _ _ _ (p .put-refusal .ensures) in
-    let enough = le-leb 1820804 (length (a .out .now)) (omega arith) in
-    (rw (is, enough) (ap done (line .0)), (rw (is, enough) (line .1), (same-rows F (a .to) (a .sheet .now), sheet-returns F (a .sheet .now))))
+    let s = a .sheet .now in
+    let no = not-got (reading F s) fresh 6408 (omega (arith, length-replicate {A = ℕ} 6408 0)) (reading-within F s) _ _ (sym (t .table-of .ensures .0) ∙ ap ofWritten (k .refusal .given .1)) in
+    let h = line-shown (rewriting F (a .to) s) _ _ _ _ _ (rewriting-refused F (a .to) s _ _ no) (c .put-refusal .ensures) in
+    (h .count, (h .bytes, (h .within, (same-rows F (a .to) s, sheet-returns F s))))
 
 pub rewrite-sheet-spec : {M : Type 1} → statement M
 rewrite-sheet-spec =
     tie.close
     (tie.spec
-    returns
     slice-aggregate-table-of
     table-of-requires
     enum-known-count
@@ -123,7 +107,5 @@ rewrite-sheet-spec =
     put-answer-requires
     enum-known-refusal
     put-refusal-requires
-    same-length
-    returns-2
-    same-length-2
-    returns-3)
+    returns
+    returns-2)
