@@ -41,8 +41,8 @@ abbrev pub Within : ℕ → Answer (List ℕ) → Type 0
 Within room asked = (t : List ℕ) → asked ≡ done t → length t ≤ room
 
 module _ (asked : Answer (List ℕ)) (out : List ℕ) (room : ℕ) where
-  shows : room ≤ length out → Within room asked → (putCount (written asked out) ≡ length (screen asked)) × (putBytes (written asked out) (held asked out) ≡ shown asked out)
-  shows h within = go asked within
+  put-as-shown : room ≤ length out → Within room asked → (putCount (written asked out) ≡ length (screen asked)) × (putBytes (written asked out) (held asked out) ≡ shown asked out)
+  put-as-shown h within = go asked within
     where
       go : (a : Answer (List ℕ)) → Within room a → (putCount (written a out) ≡ length (screen a)) × (putBytes (written a out) (held a out) ≡ shown a out)
       go (done t) w = let fits = text-fits t out (length t) refl (le-trans (w t refl) h) in (rw (fits .0), rw (fits .0, fits .1))
@@ -138,16 +138,16 @@ pub record Shows (asked : Answer (List ℕ)) (d : List ℕ) (r : ℕ) (out : Lis
   pub bytes : out ≡ shown asked d
   pub within : r ≤ length out
 
-pub shows-all : (asked : Answer (List ℕ)) (d : List ℕ) (r : ℕ) (out : List ℕ) → r ≡ length (screen asked) → out ≡ shown asked d → Shows asked d r out
-shows-all asked d r out e f = record { count = e; bytes = f; within = omega (arith, simp length-append at (ap length f)) }
+shows : (asked : Answer (List ℕ)) (d : List ℕ) (r : ℕ) (out : List ℕ) → r ≡ length (screen asked) → out ≡ shown asked d → Shows asked d r out
+shows asked d r out e f = record { count = e; bytes = f; within = omega (arith, simp length-append at (ap length f)) }
 
 -- a refusal's line, where that refusal is the answer
 pub line-shown : (asked : Answer (List ℕ)) (d out : List ℕ) (n p r : ℕ) → asked ≡ refused n p → Puts d 0 (refusalLine n p) r out → Shows asked d r out
-line-shown asked d out n p r e h = let k = put-line d out n p r h in shows-all asked d r out (rw e (k .0)) (rw e (k .1))
+line-shown asked d out n p r e h = let k = put-line d out n p r h in shows asked d r out (rw e (k .0)) (rw e (k .1))
 
 -- what was put of an answer, where the answer and the bytes are those of what was asked for
 pub put-shown : (asked : Answer (List ℕ)) (d mid out : List ℕ) (room : ℕ) (a : Answer ℕ) (r : ℕ) → room ≤ length d → Within room asked
     → (a ≡ written asked d) × (mid ≡ held asked d) → (r ≡ putCount a) × (out ≡ putBytes a mid) → Shows asked d r out
 put-shown asked d mid out room a r h within e p =
-    let k = shows asked d room h within in
-    shows-all asked d r out (p .0 ∙ ap putCount (e .0) ∙ k .0) (p .1 ∙ rw (e .0, e .1) (k .1))
+    let k = put-as-shown asked d room h within in
+    shows asked d r out (p .0 ∙ ap putCount (e .0) ∙ k .0) (p .1 ∙ rw (e .0, e .1) (k .1))
