@@ -1,5 +1,5 @@
 #!/usr/bin/env python3
-"""Runs the sheet programs over random tables and sheets, most of them damaged somewhere, and compares every byte that they write with the reference `sheet_edges.py` of the program `vectors`, which has no code of theirs:
+"""Runs the sheet programs over random tables and sheets, many of them damaged somewhere, and compares every byte that they write with the reference `sheet_edges.py` of the program `vectors`, which has no code of theirs:
 
     rt check print_sheet read_sheet rewrite_sheet && python3 outages/random.py SEED COUNT
 """
