@@ -2,7 +2,7 @@
 use Prim.Native.Nat.{ℕ, zero, suc, _+_, _-_, _*_, _/_, _%_, _^_, _≤_, _<_}
 use mathlib.Core.Path.{_≡_, refl, ap, _∙_}
 use mathlib.Core.Bool.{Bool, true, false}
-use mathlib.Core.List.{List, [], _∷_, _++_, map}
+use mathlib.Core.List.{List, [], _∷_, _++_, map, map-append}
 use native.Mathlib.Nat.{div-lt-self, div-add-mod', mod-lt, zero-mul, zero-add, one-mul, mul-zero, mul-suc, mul-comm, pow-suc, pow-zero, div-lt-iff-lt-mul, le-div-iff-mul-le, pow-le-pow-right, lt-of-lt-of-le, le-trans, le-antisymm, div-mul-le-self, lt-div-mul-add, mod-eq-of-lt}
 use native.Mathlib.Omega.{arith}
 use borrow.Author.Tests.{lt-ltb, le-ltb, ltb-true, ltb-false, leb-true, leb-false}
@@ -154,10 +154,6 @@ first-pos r hr = by-quotient r hr (λ x. 0 < x → 0 < getD (digits r x) 0 0) (�
     step x h ih p = rw (digits-ge r x hr h, List·getD-append (digits r (x / r)) (x % r ∷ []) 0 0 (count-pos r hr (x / r))) (ih (quotient-pos r x hr h))
 
 -- ---- as bytes
-pub map-append : (f : ℕ → ℕ) (s t : List ℕ) → map f (s ++ t) ≡ map f s ++ map f t
-map-append f [] t = refl
-map-append f (x ∷ s) t = ap {B = List ℕ} (λ l. f x ∷ l) (map-append f s t)
-
 pub numeral-lt : (r x : ℕ) → x < r → numeral r x ≡ digitByte x ∷ []
 unfolding numeral
 numeral-lt r x h = rw (digits-lt r x h)

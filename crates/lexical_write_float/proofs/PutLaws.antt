@@ -7,9 +7,10 @@ use native.Mathlib.Nat.{add-zero, zero-add, add-assoc, add-suc, add-sub-of-le}
 use native.Mathlib.Numerals.{add-one}
 use native.Mathlib.Omega.{arith}
 use borrow.Author.Tests.{le-leb, lt-leb}
+use borrow.Rule.Slice.PartAt.{part-to-end}
 use lib.Dec.{leb}
 use lib.ListN.{length, take, drop, set, getD, length-append, length-drop, take-append-drop}
-use lib.Seq.{set-split, drop-cons, set-at, length-take-le, take-at, drop-append-add, drop-drop, drop-length, take-all}
+use lib.Seq.{set-split, drop-cons, set-at, length-take-le, take-at, drop-append-add, drop-drop, drop-length}
 use Rattle.lexical_util.specs.Answer.{Answer, done, refused, written, held}
 use Rattle.lexical_util.proofs.AnswerLaws.{refused-done, done-same}
 use Rattle.lexical_write_float.specs.Code.{put, Puts}
@@ -64,7 +65,7 @@ pub part-put : (d t l : List ℕ) (at n : ℕ) → at ≤ length d → n ≡ len
     → take at d ++ (l ++ drop (length d - at) (drop at d)) ≡ put d at t
 unfolding put
 part-put d t l at n h e w =
-    rw (w, e, take-all (length d - at) (drop at d) (simp length-drop (omega arith)), drop-drop (length t) at d, drop-drop (length d - at) at d, add-sub-of-le h, drop-length, append-nil)
+    rw (w, e, part-to-end d at, drop-drop (length t) at d, drop-drop (length d - at) at d, add-sub-of-le h, drop-length, append-nil)
 
 -- a text put at the front
 pub put-front : (d t : List ℕ) → put d 0 t ≡ t ++ drop (length t) d

@@ -1,7 +1,7 @@
 -- The check of a sheet's format by the writer's: they differ in refusal 5 alone. Assumes nothing.
 use Prim.Native.Nat.{ℕ}
-use mathlib.Core.Path.{_≡_, refl, sym, ap, _∙_}
-use mathlib.Core.Bool.{Bool, true, false, not, _||_}
+use mathlib.Core.Path.{_≡_, sym, ap, _∙_}
+use mathlib.Core.Bool.{Bool, not, _||_, or-true, or-false}
 use borrow.Author.Tests.{ne-eqb}
 use lib.Dec.{ltb}
 use Rattle.lexical_util.specs.Answer.{done, andThen}
@@ -23,14 +23,6 @@ limitedTo limit o =
       exponent = o .exponent;
       «decimal_point» = o .«decimal_point»;
     }
-
-or-true : (b : Bool) → (b || true) ≡ true
-or-true true = refl
-or-true false = refl
-
-or-false : (b : Bool) → (b || false) ≡ b
-or-false true = refl
-or-false false = refl
 
 pub counts-none : (o : Options) → o .«max_significant_digits» ≡ 0 → badCounts (limitedTo 0 o) ≡ (badCounts o || given (o .«max_significant_digits»))
 unfolding badCounts
