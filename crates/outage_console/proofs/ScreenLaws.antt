@@ -109,11 +109,11 @@ rewriting-refused F G s n p e = rw e
 -- it is never refused by a format that is taken
 pub rewriting-again : (F G : TextFormat) (s t : List ℕ) → reading F s ≡ done t → (row : Pair) → sheetFormat (G .format) (G .options) ≡ done row → (text : List ℕ) × (rewriting F G s ≡ done text)
 unfolding reading
-rewriting-again F G s t e row f = go (ltb 3277604 (length s)) refl e
+rewriting-again F G s t e row f = go (ltb 3277604 (length s)) e
   where
-    go : (b : Bool) → ltb 3277604 (length s) ≡ b → cond b (refused 15 3277604) (sheetTable (F .format) (F .options) s (tableSize 400)) ≡ done t → (text : List ℕ) × (rewriting F G s ≡ done text)
-    go true q p = absurd (refused-done 15 3277604 t p)
-    go false q p =
+    go : (b : Bool) → cond b (refused 15 3277604) (sheetTable (F .format) (F .options) s (tableSize 400)) ≡ done t → (text : List ℕ) × (rewriting F G s ≡ done text)
+    go true p = absurd (refused-done 15 3277604 t p)
+    go false p =
         let again = sheet-again (F .format) (F .options) s (tableSize 400) t p (G .format) (G .options) row f in
         (again .0, rewriting-done F G s t e ∙ again .1)
 

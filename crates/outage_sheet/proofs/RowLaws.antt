@@ -183,10 +183,10 @@ module _ (F : NumberFormat) (o : Options) (line : List ℕ) where
       rw (s, ← f, ne-eqb m (length line) k)
 
 -- ---- the row that stands at p in a sheet, where the code was lent the part from there on
-module _ (F : NumberFormat) (o : Options) (s : List ℕ) (p : ℕ) (h : p ≤ length s) where
-  pub end-there : (m : ℕ) → m ≡ length (before 10 (take (length s - p) (drop p s))) → m ≡ length (before 10 (drop p s))
-  end-there m e = e ∙ ap (λ (l : List ℕ). length (before 10 l)) (part-to-end s p)
+pub end-there : (s : List ℕ) (p m : ℕ) → m ≡ length (before 10 (take (length s - p) (drop p s))) → m ≡ length (before 10 (drop p s))
+end-there s p m e = e ∙ ap (λ (l : List ℕ). length (before 10 l)) (part-to-end s p)
 
+module _ (F : NumberFormat) (o : Options) (s : List ℕ) (p : ℕ) where
   module _ (x a : Answer Window) (e : x ≡ rowIn F o none (take (length s - p) (drop p s))) (f : x ≡ a) where
     pub row-there : rowIn F o none (drop p s) ≡ a
     row-there = sym (ap (rowIn F o none) (part-to-end s p)) ∙ sym e ∙ f

@@ -82,14 +82,14 @@ module _ (r : tie.After-row-in Inv-loop μ-loop) where
   turning = omega arith
 
   end-is : m ≡ length (before 10 (drop p s))
-  end-is = end-there (start .args .format) (start .args .options) s p within m (r .before .before .find .ensures .0)
+  end-is = end-there s p m (r .before .before .find .ensures .0)
 
   module _ (x : Answer Window) (e : ofCheckedWindow (r .row-in .result) ≡ x) where
     row-is : rowIn (start .args .format) (start .args .options) none (drop p s) ≡ x
-    row-is = row-there (start .args .format) (start .args .options) s p within (ofCheckedWindow (r .row-in .result)) x (r .row-in .ensures) e
+    row-is = row-there (start .args .format) (start .args .options) s p (ofCheckedWindow (r .row-in .result)) x (r .row-in .ensures) e
 
     known : Within Stored (length s - p) x
-    known = row-known (start .args .format) (start .args .options) s p within (ofCheckedWindow (r .row-in .result)) x (r .row-in .ensures) e
+    known = row-known (start .args .format) (start .args .options) s p (ofCheckedWindow (r .row-in .result)) x (r .row-in .ensures) e
 
 -- a window that passed
 module _ (k : tie.After-window Inv-loop μ-loop) where
@@ -103,7 +103,7 @@ module _ (k : tie.After-window Inv-loop μ-loop) where
   row-done = row-is passed (done w) (ap ofCheckedWindow (k .window .given .1))
 
   inside : p passed + m passed < length (s passed)
-  inside = row-ends (start passed .args .format) (start passed .args .options) (s passed) (p passed) (within passed) (m passed) (end-is passed) w row-done
+  inside = row-ends (start passed .args .format) (start passed .args .options) (s passed) (p passed) (m passed) (end-is passed) w row-done
 
   again : (t′ : List ℕ) → t′ ≡ putWindow (t passed) (start passed .args .n) (i passed) w → length t′ ≡ length (t passed)
       → Left (start passed .args .format) (start passed .args .options) (s passed) (start passed .args .from) (start passed .args .n) (start passed .args .table .now) (i passed + 1) (p passed + (m passed + 1)) t′
