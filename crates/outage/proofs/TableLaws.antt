@@ -53,7 +53,7 @@ from-done p (refused n q) v e = absurd (refused-done n (p + q) v e)
 pub row-passes : (t : List ℕ) (n i : ℕ) (v : Window) → rowAt t n i ≡ done v → Passes (windowAt t n i) v
 row-passes t n i v e =
     let w = windowAt t n i in
-    let k = passed (floatChecks columns w ++ windowChecks (rowAbove t n i) w) w v (from-done i (tableRow (rowAbove t n i) w) v e) in
+    let k = passed (floatChecks columns w ++ windowChecks (rowAbove t n i) w) w v (from-done _ (tableRow (rowAbove t n i) w) v e) in
     record {
       same = k .1;
       start-plain = not-false (isPlain (w .start)) (k .0 .0);
