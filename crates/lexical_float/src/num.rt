@@ -1,6 +1,6 @@
 // Derived from lexical-util/src/num.rs, changed: one body on u64 with the width beside it instead of a trait, and sign, infinities and NaN as cases of one answer.
 ghost use mathlib.Core.Path.{_≡_};
-ghost use lib.Ieee.{Float, binary32, binary64};
+ghost use lib.Ieee.{binary32, binary64};
 ghost use Rattle.lexical_float.specs.Parts.{partsOf, IsValue};
 use crate::encoding::Width;
 use crate::encoding::parts_of_bits;

@@ -11,7 +11,7 @@ use lib.Seq.{length-take-le, take-all, drop-length}
 use Rattle.lexical_write_float.specs.declared.plan.Plan.{Plan}
 use Rattle.lexical_format.specs.declared.format.NumberFormat.{NumberFormat}
 use Rattle.lexical_format.specs.declared.options.Options.{Options}
-use Rattle.lexical_text.specs.Text.{zeros, point, least, trim, scientific, negative, positive}
+use Rattle.lexical_text.specs.Text.{point, least, trim, scientific, negative, positive}
 use Rattle.lexical_write_float.specs.Code.{fractionText, planText, IsPlan}
 
 module _ (point : ℕ) (P : Plan) (D : List ℕ) where

@@ -1,5 +1,5 @@
 -- The text of an exponent by its sign and its magnitude: its length, and that it is the text of an exponent in document 01's sense. Assumes nothing.
-use Prim.Native.Nat.{ℕ, _+_, _*_, _/_}
+use Prim.Native.Nat.{ℕ, _+_}
 use mathlib.Core.Path.{_≡_, refl, sym}
 use mathlib.Core.Bool.{Bool, true}
 use native.Mathlib.Omega.{arith}
