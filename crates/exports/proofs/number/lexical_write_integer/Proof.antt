@@ -3,8 +3,8 @@ use borrow.Author.Needs.{needs}
 use denote.Ref.{now}
 use Rattle.lexical_digits.specs.Write.{digitsText}
 use Rattle.exports.proofs.ExportLaws.{handed-on}
-use Rattle.exports.proofs.lexical_write_integer.Statement.{statement}
-use Rattle.exports.proofs.lexical_write_integer.Tie as tie
+use Rattle.exports.proofs.number.lexical_write_integer.Statement.{statement}
+use Rattle.exports.proofs.number.lexical_write_integer.Tie as tie
 
 write-integer-requires : tie.Need-write-integer-requires
 write-integer-requires c κs = search needs

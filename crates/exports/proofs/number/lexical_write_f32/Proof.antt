@@ -1,9 +1,10 @@
 -- `exports::lexical_write_f32` meets its contract: what the call beneath answers and leaves, for the format and options of the struct. Assumes nothing.
 use borrow.Author.Needs.{needs}
 use denote.Ref.{now}
-use Rattle.exports.proofs.ExportLaws.{float-handed-on}
-use Rattle.exports.proofs.lexical_write_f32.Statement.{statement}
-use Rattle.exports.proofs.lexical_write_f32.Tie as tie
+use Rattle.lexical_text.specs.Write.{writeText}
+use Rattle.exports.proofs.ExportLaws.{format-handed-on}
+use Rattle.exports.proofs.number.lexical_write_f32.Statement.{statement}
+use Rattle.exports.proofs.number.lexical_write_f32.Tie as tie
 
 options-of-requires : tie.Need-options-of-requires
 options-of-requires c κs = search needs
@@ -26,7 +27,7 @@ returns c =
     let f = w .before .before in
     let o = f .before in
     let a = o .before .before .args in
-    float-handed-on (a .format) (a .x) (now (a .buffer)) (f .format-of .ensures) (o .options-of .ensures) (w .write-f32 .ensures .0) (w .write-f32 .ensures .1 .0) (c .answer-of .ensures)
+    format-handed-on (λ F o. writeText F o (a .x)) (a .format) (now (a .buffer)) (f .format-of .ensures) (o .options-of .ensures) (w .write-f32 .ensures .0) (w .write-f32 .ensures .1 .0) (c .answer-of .ensures)
 
 pub lexical-write-f32-spec : {M : Type 1} → statement M
 lexical-write-f32-spec =

@@ -1,0 +1,16 @@
+-- `exports::text_format_of` meets its contract: number format and options together. Assumes nothing.
+use borrow.Author.Needs.{needs}
+use Rattle.exports.proofs.format.text_format_of.Statement.{statement}
+use Rattle.exports.proofs.format.text_format_of.Tie as tie
+
+options-of-requires : tie.Need-options-of-requires
+options-of-requires c κs = search needs
+
+format-of-requires : tie.Need-format-of-requires
+format-of-requires c κs = search needs
+
+returns : tie.Need-returns
+returns c = simp (c .format-of .ensures, c .before .options-of .ensures)
+
+pub text-format-of-spec : {M : Type 1} → statement M
+text-format-of-spec = tie.close (tie.spec options-of-requires format-of-requires returns)

@@ -1,0 +1,42 @@
+-- `exports::outage_sheet_to_table` meets its contract: what the call beneath answers and leaves, for the format and options of the struct. Assumes nothing.
+use borrow.Author.Needs.{needs}
+use denote.Ref.{now}
+use lib.ListN.{length}
+use Rattle.outage.specs.Calls.{sheetTable}
+use Rattle.exports.proofs.ExportLaws.{format-handed-on}
+use Rattle.exports.proofs.sheet.outage_sheet_to_table.Statement.{statement}
+use Rattle.exports.proofs.sheet.outage_sheet_to_table.Tie as tie
+
+options-of-requires : tie.Need-options-of-requires
+options-of-requires c κs = search needs
+
+format-of-requires : tie.Need-format-of-requires
+format-of-requires c κs = search needs
+
+sheet-to-table-requires : tie.Need-sheet-to-table-requires
+sheet-to-table-requires c κs = search needs
+
+answer-of-requires : tie.Need-answer-of-requires
+answer-of-requires c κs = search needs
+
+same-length : tie.Need-same-length
+same-length c = search needs
+
+returns : tie.Need-returns
+returns c =
+    let w = c .before .before .before in
+    let f = w .before .before in
+    let o = f .before in
+    let a = o .before .before .before .args in
+    format-handed-on (λ F o. sheetTable F o (now (a .sheet)) (length (now (a .table)))) (a .format) (now (a .table)) (f .format-of .ensures) (o .options-of .ensures) (w .sheet-to-table .ensures .0) (w .sheet-to-table .ensures .1) (c .answer-of .ensures)
+
+pub outage-sheet-to-table-spec : {M : Type 1} → statement M
+outage-sheet-to-table-spec =
+    tie.close
+    (tie.spec
+    options-of-requires
+    format-of-requires
+    sheet-to-table-requires
+    answer-of-requires
+    same-length
+    returns)

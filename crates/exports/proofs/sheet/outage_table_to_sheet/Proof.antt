@@ -1,0 +1,41 @@
+-- `exports::outage_table_to_sheet` meets its contract: what the call beneath answers and leaves, for the format and options of the struct. Assumes nothing.
+use borrow.Author.Needs.{needs}
+use denote.Ref.{now}
+use Rattle.outage.specs.Calls.{tableSheet}
+use Rattle.exports.proofs.ExportLaws.{format-handed-on}
+use Rattle.exports.proofs.sheet.outage_table_to_sheet.Statement.{statement}
+use Rattle.exports.proofs.sheet.outage_table_to_sheet.Tie as tie
+
+options-of-requires : tie.Need-options-of-requires
+options-of-requires c κs = search needs
+
+format-of-requires : tie.Need-format-of-requires
+format-of-requires c κs = search needs
+
+table-to-sheet-requires : tie.Need-table-to-sheet-requires
+table-to-sheet-requires c κs = search needs
+
+answer-of-requires : tie.Need-answer-of-requires
+answer-of-requires c κs = search needs
+
+same-length : tie.Need-same-length
+same-length c = search needs
+
+returns : tie.Need-returns
+returns c =
+    let w = c .before .before .before in
+    let f = w .before .before in
+    let o = f .before in
+    let a = o .before .before .before .args in
+    format-handed-on (λ F o. tableSheet F o (now (a .table))) (a .format) (now (a .sheet)) (f .format-of .ensures) (o .options-of .ensures) (w .table-to-sheet .ensures .0) (w .table-to-sheet .ensures .1 .0) (c .answer-of .ensures)
+
+pub outage-table-to-sheet-spec : {M : Type 1} → statement M
+outage-table-to-sheet-spec =
+    tie.close
+    (tie.spec
+    options-of-requires
+    format-of-requires
+    table-to-sheet-requires
+    answer-of-requires
+    same-length
+    returns)

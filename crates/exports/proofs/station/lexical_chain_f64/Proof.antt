@@ -1,0 +1,47 @@
+-- `exports::lexical_chain_f64` meets its contract: what the call beneath answers and leaves, for the formats of the structs. Assumes nothing.
+use borrow.Author.Needs.{needs}
+use denote.Ref.{now}
+use lib.Ieee.{binary64}
+use Rattle.lexical_rewriting.specs.declared.text_format.TextFormat.{TextFormat}
+use Rattle.lexical_rewriting.specs.Record.{formatsOf}
+use Rattle.lexical_rewriting.specs.Chain.{Outcome, chainOf}
+use Rattle.exports.specs.Exports.{stationAnswerOf}
+use Rattle.exports.proofs.ExportLaws.{rewriting-handed-on}
+use Rattle.exports.proofs.station.lexical_chain_f64.Statement.{statement}
+use Rattle.exports.proofs.station.lexical_chain_f64.Tie as tie
+
+text-format-of-requires : tie.Need-text-format-of-requires
+text-format-of-requires c κs = search needs
+
+text-format-of-requires-2 : tie.Need-text-format-of-requires-2
+text-format-of-requires-2 c κs = search needs
+
+chain-f64-requires : tie.Need-chain-f64-requires
+chain-f64-requires c κs = search needs
+
+chained-of-requires : tie.Need-chained-of-requires
+chained-of-requires c κs = search needs
+
+same-length : tie.Need-same-length
+same-length c = search needs
+
+returns : tie.Need-returns
+returns c =
+    let w = c .before .before .before in
+    let g = w .before .before in
+    let f = g .before in
+    let a = f .before .before .before .before .args in
+    let ran : TextFormat → TextFormat → Outcome = λ F G. chainOf binary64 F (now (a .text)) G (formatsOf (now (a .further))) (now (a .buffer)) in
+    rewriting-handed-on stationAnswerOf (λ F G. ran F G .answer) (λ F G. ran F G .bytes)
+    (a .from) (a .first) (f .text-format-of .ensures) (g .text-format-of2 .ensures) (w .chain-f64 .ensures .0) (w .chain-f64 .ensures .1 .0) (c .chained-of .ensures)
+
+pub lexical-chain-f64-spec : {M : Type 1} → statement M
+lexical-chain-f64-spec =
+    tie.close
+    (tie.spec
+    text-format-of-requires
+    text-format-of-requires-2
+    chain-f64-requires
+    chained-of-requires
+    same-length
+    returns)

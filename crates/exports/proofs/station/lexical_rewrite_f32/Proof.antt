@@ -1,0 +1,48 @@
+-- `exports::lexical_rewrite_f32` meets its contract: what the call beneath answers and leaves, for the formats of the structs. Assumes nothing.
+use borrow.Author.Needs.{needs}
+use denote.Ref.{now}
+use lib.Ieee.{binary32}
+use Rattle.lexical_rewriting.specs.Rewrite.{readIn, rewriteAnswer, rewriteBytes}
+use Rattle.lexical_rewriting.specs.Chain.{atStation}
+use Rattle.exports.specs.Exports.{stationAnswerOf}
+use Rattle.exports.proofs.ExportLaws.{rewriting-handed-on}
+use Rattle.exports.proofs.station.lexical_rewrite_f32.Statement.{statement}
+use Rattle.exports.proofs.station.lexical_rewrite_f32.Tie as tie
+
+text-format-of-requires : tie.Need-text-format-of-requires
+text-format-of-requires c κs = search needs
+
+text-format-of-requires-2 : tie.Need-text-format-of-requires-2
+text-format-of-requires-2 c κs = search needs
+
+rewrite-f32-requires : tie.Need-rewrite-f32-requires
+rewrite-f32-requires c κs = search needs
+
+rewritten-of-requires : tie.Need-rewritten-of-requires
+rewritten-of-requires c κs = search needs
+
+same-length : tie.Need-same-length
+same-length c = search needs
+
+returns : tie.Need-returns
+returns c =
+    let w = c .before .before .before in
+    let g = w .before .before in
+    let f = g .before in
+    let a = f .before .before .before .args in
+    let out = now (a .buffer) in
+    rewriting-handed-on (λ answer. stationAnswerOf (atStation 0 answer))
+    (λ F G. rewriteAnswer G out (readIn binary32 F (now (a .text))))
+    (λ F G. rewriteBytes G out (readIn binary32 F (now (a .text))))
+    (a .from) (a .to) (f .text-format-of .ensures) (g .text-format-of2 .ensures) (w .rewrite-f32 .ensures .0) (w .rewrite-f32 .ensures .1) (c .rewritten-of .ensures)
+
+pub lexical-rewrite-f32-spec : {M : Type 1} → statement M
+lexical-rewrite-f32-spec =
+    tie.close
+    (tie.spec
+    text-format-of-requires
+    text-format-of-requires-2
+    rewrite-f32-requires
+    rewritten-of-requires
+    same-length
+    returns)

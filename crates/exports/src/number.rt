@@ -1,0 +1,59 @@
+// Digits of a number; a float's text written and read.
+ghost use mathlib.Core.Path.{_≡_};
+ghost use lib.Ieee.{binary32, binary64};
+ghost use Rattle.lexical_util.specs.Answer.{written, held};
+ghost use Rattle.lexical_digits.specs.Write.{digitsText};
+ghost use Rattle.lexical_text.specs.Write.{writeText};
+ghost use Rattle.lexical_reading.specs.Read.{readFloat};
+ghost use Rattle.exports.specs.Exports.{formatOf, optionsOf, answerOf, answerF64Of, answerF32Of};
+use crate::answer::Answer;
+use crate::answer::AnswerF32;
+use crate::answer::AnswerF64;
+use crate::answer::answer_f32_of;
+use crate::answer::answer_f64_of;
+use crate::answer::answer_of;
+use crate::format::Format;
+use crate::format::format_of;
+use crate::format::options_of;
+
+#[no_mangle]
+pub extern "C" fn lexical_write_integer(value: u64, radix: u32, buffer: &mut [u8]) -> Answer
+    ensures { λ r. ⌜ r ≡ answerOf (written (digitsText value radix) (now (buffer .entry))) ⌝ }
+    ensures { λ _. ⌜ now (buffer .exit) ≡ held (digitsText value radix) (now (buffer .entry)) ⌝ }
+{
+    answer_of(lexical_write_integer::write_integer(value, radix, buffer))
+}
+
+#[no_mangle]
+pub extern "C" fn lexical_write_f64(x: f64, format: Format, buffer: &mut [u8]) -> Answer
+    ensures { λ r. ⌜ r ≡ answerOf (written (writeText (formatOf format) (optionsOf format) x) (now (buffer .entry))) ⌝ }
+    ensures { λ _. ⌜ now (buffer .exit) ≡ held (writeText (formatOf format) (optionsOf format) x) (now (buffer .entry)) ⌝ }
+{
+    let options = options_of(format);
+    answer_of(lexical_write_float::write_f64(x, format_of(format), options, buffer))
+}
+
+#[no_mangle]
+pub extern "C" fn lexical_write_f32(x: f32, format: Format, buffer: &mut [u8]) -> Answer
+    ensures { λ r. ⌜ r ≡ answerOf (written (writeText (formatOf format) (optionsOf format) x) (now (buffer .entry))) ⌝ }
+    ensures { λ _. ⌜ now (buffer .exit) ≡ held (writeText (formatOf format) (optionsOf format) x) (now (buffer .entry)) ⌝ }
+{
+    let options = options_of(format);
+    answer_of(lexical_write_float::write_f32(x, format_of(format), options, buffer))
+}
+
+#[no_mangle]
+pub extern "C" fn lexical_read_f64(text: &[u8], format: Format) -> AnswerF64
+    ensures { λ r. ⌜ r ≡ answerF64Of (readFloat binary64 (formatOf format) (optionsOf format) (now (text .entry))) ⌝ }
+{
+    let options = options_of(format);
+    answer_f64_of(lexical_read_float::read_f64(text, format_of(format), options))
+}
+
+#[no_mangle]
+pub extern "C" fn lexical_read_f32(text: &[u8], format: Format) -> AnswerF32
+    ensures { λ r. ⌜ r ≡ answerF32Of (readFloat binary32 (formatOf format) (optionsOf format) (now (text .entry))) ⌝ }
+{
+    let options = options_of(format);
+    answer_f32_of(lexical_read_float::read_f32(text, format_of(format), options))
+}

@@ -1,0 +1,29 @@
+// The outage table and sheet.
+ghost use mathlib.Core.Path.{_≡_};
+ghost use lib.ListN.{length};
+ghost use Rattle.lexical_util.specs.Answer.{written, held};
+ghost use Rattle.outage.specs.Calls.{tableSheet, sheetTable};
+ghost use Rattle.exports.specs.Exports.{formatOf, optionsOf, answerOf};
+use crate::answer::Answer;
+use crate::answer::answer_of;
+use crate::format::Format;
+use crate::format::format_of;
+use crate::format::options_of;
+
+#[no_mangle]
+pub extern "C" fn outage_table_to_sheet(table: &[u8], format: Format, sheet: &mut [u8]) -> Answer
+    ensures { λ r. ⌜ r ≡ answerOf (written (tableSheet (formatOf format) (optionsOf format) (now (table .entry))) (now (sheet .entry))) ⌝ }
+    ensures { λ _. ⌜ now (sheet .exit) ≡ held (tableSheet (formatOf format) (optionsOf format) (now (table .entry))) (now (sheet .entry)) ⌝ }
+{
+    let options = options_of(format);
+    answer_of(outage_table::table_to_sheet(table, format_of(format), options, sheet))
+}
+
+#[no_mangle]
+pub extern "C" fn outage_sheet_to_table(sheet: &[u8], format: Format, table: &mut [u8]) -> Answer
+    ensures { λ r. ⌜ r ≡ answerOf (written (sheetTable (formatOf format) (optionsOf format) (now (sheet .entry)) (length (now (table .entry)))) (now (table .entry))) ⌝ }
+    ensures { λ _. ⌜ now (table .exit) ≡ held (sheetTable (formatOf format) (optionsOf format) (now (sheet .entry)) (length (now (table .entry)))) (now (table .entry)) ⌝ }
+{
+    let options = options_of(format);
+    answer_of(outage_sheet::sheet_to_table(sheet, format_of(format), options, table))
+}
