@@ -1,0 +1,59 @@
+//! The calls by the Rust crate.
+
+use hornbillrug::{Format, Record, Refusal};
+
+use crate::{Calls, Rewritten, Written};
+
+/// The safe calls of `hornbillrug`.
+pub struct Rust;
+
+impl Calls for Rust {
+    fn write_integer(value: u64, radix: u32, buffer: &mut [u8]) -> Written {
+        hornbillrug::write_integer(value, radix, buffer)
+    }
+    fn write_f64(x: f64, format: &Format, buffer: &mut [u8]) -> Written {
+        hornbillrug::write_f64(x, format, buffer)
+    }
+    fn write_f32(x: f32, format: &Format, buffer: &mut [u8]) -> Written {
+        hornbillrug::write_f32(x, format, buffer)
+    }
+    fn read_f64(text: &[u8], format: &Format) -> Result<f64, Refusal> {
+        hornbillrug::read_f64(text, format)
+    }
+    fn read_f32(text: &[u8], format: &Format) -> Result<f32, Refusal> {
+        hornbillrug::read_f32(text, format)
+    }
+    fn rewrite_f64(text: &[u8], from: &Format, to: &Format, buffer: &mut [u8]) -> Rewritten {
+        hornbillrug::rewrite_f64(text, from, to, buffer)
+    }
+    fn rewrite_f32(text: &[u8], from: &Format, to: &Format, buffer: &mut [u8]) -> Rewritten {
+        hornbillrug::rewrite_f32(text, from, to, buffer)
+    }
+    fn chain_f64(
+        text: &[u8],
+        from: &Format,
+        first: &Format,
+        further: &[Record],
+        buffer: &mut [u8],
+    ) -> Rewritten {
+        hornbillrug::chain_f64(text, from, first, further, buffer)
+    }
+    fn chain_f32(
+        text: &[u8],
+        from: &Format,
+        first: &Format,
+        further: &[Record],
+        buffer: &mut [u8],
+    ) -> Rewritten {
+        hornbillrug::chain_f32(text, from, first, further, buffer)
+    }
+    fn table_to_sheet(table: &[u8], format: &Format, sheet: &mut [u8]) -> Written {
+        hornbillrug::table_to_sheet(table, format, sheet)
+    }
+    fn sheet_to_table(sheet: &[u8], format: &Format, table: &mut [u8]) -> Written {
+        hornbillrug::sheet_to_table(sheet, format, table)
+    }
+    fn record(format: &Format) -> Record {
+        format.record()
+    }
+}

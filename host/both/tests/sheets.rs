@@ -1,0 +1,104 @@
+//! Tables and sheets over both: the fixed lists, the largest, exact buffers, one byte short.
+
+use both::list::{self, Sheet};
+use both::{expect, expect_text, over_both, Calls, Written};
+use hornbillrug::{Format, Refusal, LONGEST_SHEET, LONGEST_TABLE, MOST_WINDOWS};
+
+const SHORT: Refusal = Refusal { number: 8, place: 0 };
+
+over_both!(lists, largest, damaged_rows);
+
+fn call<T: Calls>(case: &Sheet, b: &mut [u8]) -> Written {
+    match case.is_table {
+        true => T::table_to_sheet(&case.input, &case.format, b),
+        false => T::sheet_to_table(&case.input, &case.format, b),
+    }
+}
+
+fn lists<T: Calls>() {
+    for file in ["sheets.txt", "sheet_edges.txt"] {
+        let list = list::sheets(file);
+        assert!(list.len() > 100, "{file}");
+        for case in list {
+            match &case.answer {
+                Ok(text) => {
+                    expect(case.room, Ok(text), |b| call::<T>(&case, b));
+                    expect_text(text, 50, SHORT, |b| call::<T>(&case, b));
+                }
+                Err(refusal) => expect(case.room, Err(*refusal), |b| call::<T>(&case, b)),
+            }
+        }
+    }
+}
+
+/// A table of 400 windows of the least float, in the format with the longest texts.
+fn largest<T: Calls>() {
+    let format = Format {
+        no_exponent_notation: true,
+        min_significant_digits: 1200,
+        ..Format::new(2, 2, 10, b'^')
+    };
+    let mut table = Vec::new();
+    table.extend(400u32.to_le_bytes());
+    table.extend(6408u32.to_le_bytes());
+    table.resize_with(LONGEST_TABLE, Default::default);
+    for float in table[8..].chunks_mut(8) {
+        float[0] = 1;
+    }
+    let mut row = b"0.".to_vec();
+    row.resize(2 + 1073, b'0');
+    row.push(b'1');
+    row.resize(2275, b'0');
+    let mut sheet = b"400\n".to_vec();
+    for _ in 0..MOST_WINDOWS {
+        sheet.extend_from_slice(&row);
+        sheet.push(b' ');
+        sheet.extend_from_slice(&row);
+        sheet.push(b'\n');
+    }
+    assert_eq!(sheet.len(), LONGEST_SHEET);
+    expect_text(&sheet, 77, SHORT, |b| T::table_to_sheet(&table, &format, b));
+    expect_text(&table, 77, SHORT, |b| T::sheet_to_table(&sheet, &format, b));
+}
+
+/// One byte wrong in a row of a sheet of 400, at its first and at its last row.
+fn damaged_rows<T: Calls>() {
+    let format = Format { required_exponent_notation: true, ..Format::new(16, 2, 10, b'p') };
+    let sheet = [&b"400\n"[..], &b"1.0p0 1.8p0\n".repeat(MOST_WINDOWS)].concat();
+    let mut table = Vec::new();
+    table.extend(400u32.to_le_bytes());
+    table.extend(6408u32.to_le_bytes());
+    table.extend(1.0f64.to_le_bytes().repeat(MOST_WINDOWS));
+    table.extend(1.5f64.to_le_bytes().repeat(MOST_WINDOWS));
+    expect_text(&table, 5, SHORT, |b| T::sheet_to_table(&sheet, &format, b));
+    expect_text(&sheet, 5, SHORT, |b| T::table_to_sheet(&table, &format, b));
+    for row in [0, MOST_WINDOWS - 1] {
+        let line = 4 + 12 * row;
+        // place in the line, byte, refusal, place of the refusal
+        let damages = [
+            (0, b'G', 9, line),
+            (5, b'+', 15, line),
+            (5, b'\n', 15, line),
+            (6, b'0', 14, line),
+            (8, b'g', 9, line + 8),
+            (11, b' ', 15, line),
+        ];
+        for (at, byte, number, place) in damages {
+            let mut damaged = sheet.clone();
+            damaged[line + at] = byte;
+            expect(LONGEST_TABLE, Err(Refusal { number, place }), |b| {
+                T::sheet_to_table(&damaged, &format, b)
+            });
+        }
+        let mut infinite = table.clone();
+        infinite[8 + 8 * row..][..8].copy_from_slice(&f64::INFINITY.to_le_bytes());
+        expect(LONGEST_SHEET, Err(Refusal { number: 7, place: row }), |b| {
+            T::table_to_sheet(&infinite, &format, b)
+        });
+        let mut early = table.clone();
+        early[8 + 8 * (MOST_WINDOWS + row)..][..8].copy_from_slice(&0.5f64.to_le_bytes());
+        expect(LONGEST_SHEET, Err(Refusal { number: 14, place: row }), |b| {
+            T::table_to_sheet(&early, &format, b)
+        });
+    }
+}

@@ -1,0 +1,212 @@
+//! Rewriting and chains over both. A text of the lists has to come back to the same bytes through any
+//! formats without a digit limit, since each station hands on the same float.
+
+use both::list::{self, Writing};
+use both::{expect, expect_text, over_both, Calls, Rewritten};
+use hornbillrug::{Format, Record, Refusal, StationRefusal, Step};
+
+over_both!(
+    rewritten_in_place,
+    chains_come_back,
+    chains_hand_on_the_float,
+    damaged_texts,
+    refusals_by_station,
+    records_say_the_same,
+    records_cut_to_fit,
+);
+
+fn refused(station: usize, step: Step, number: u32, place: usize) -> StationRefusal {
+    StationRefusal { station, step, refusal: Refusal { number, place } }
+}
+
+/// Stations of the week and others.
+fn formats() -> Vec<Format> {
+    let of = |radix, base, exponent_radix, mark| Format::new(radix, base, exponent_radix, mark);
+    vec![
+        Format { required_exponent_notation: true, ..of(16, 2, 10, b'p') },
+        Format { required_exponent_notation: true, ..of(32, 32, 10, b'p') },
+        Format { no_exponent_notation: true, ..of(2, 2, 10, b'p') },
+        Format { trim_floats: true, ..of(8, 2, 2, b'^') },
+        Format { min_significant_digits: 1200, decimal_point: b',', ..of(4, 4, 32, b'~') },
+        Format {
+            negative_exponent_break: -2000,
+            positive_exponent_break: 2000,
+            ..of(16, 4, 8, b'G')
+        },
+    ]
+}
+
+fn rewrite<T: Calls>(w: u32, t: &[u8], from: &Format, to: &Format, b: &mut [u8]) -> Rewritten {
+    match w {
+        32 => T::rewrite_f32(t, from, to, b),
+        _ => T::rewrite_f64(t, from, to, b),
+    }
+}
+
+fn chain<T: Calls>(
+    width: u32,
+    t: &[u8],
+    from: &Format,
+    first: &Format,
+    further: &[Record],
+    b: &mut [u8],
+) -> Rewritten {
+    match width {
+        32 => T::chain_f32(t, from, first, further, b),
+        _ => T::chain_f64(t, from, first, further, b),
+    }
+}
+
+/// The lines of a list that have a text and no digit limit.
+fn exact_lines(file: &str) -> Vec<(Writing, Vec<u8>)> {
+    let lines = list::writing(file).into_iter();
+    let exact = lines.filter(|line| line.format.max_significant_digits == 0);
+    let exact: Vec<_> =
+        exact.filter_map(|line| line.answer.clone().ok().map(|text| (line, text))).collect();
+    assert!(exact.len() > 1000);
+    exact
+}
+
+fn rewritten_in_place<T: Calls>() {
+    for (line, text) in exact_lines("write.txt") {
+        let short = refused(0, Step::Writing, 8, 0);
+        expect_text(&text, 30, short, |b| {
+            rewrite::<T>(line.width, &text, &line.format, &line.format, b)
+        });
+    }
+}
+
+fn chains_come_back<T: Calls>() {
+    let formats = formats();
+    for (line, text) in exact_lines("rust.txt") {
+        for first in &formats {
+            let others = formats.iter().map(Format::record);
+            let further: Vec<_> = others.chain([line.format.record()]).collect();
+            let short = refused(further.len(), Step::Writing, 8, 0);
+            expect_text(&text, 30, short, |b| {
+                chain::<T>(line.width, &text, &line.format, first, &further, b)
+            });
+        }
+    }
+}
+
+/// The texts of the reading lists too, many of them long or not as the writer would write them.
+fn chains_hand_on_the_float<T: Calls>() {
+    let formats = formats();
+    for case in list::reading("read.txt") {
+        let Ok(bits) = case.answer else { continue };
+        for first in &formats {
+            let last = formats[(bits % 6) as usize];
+            let mut b = [0; 2275];
+            let further = [formats[1].record(), last.record()];
+            let length = chain::<T>(case.width, &case.text, &case.format, first, &further, &mut b)
+                .expect("no station refuses");
+            let read = match case.width {
+                32 => T::read_f32(&b[..length], &last).map(|x| x.to_bits().into()),
+                _ => T::read_f64(&b[..length], &last).map(f64::to_bits),
+            };
+            assert_eq!(read, Ok(bits));
+        }
+    }
+}
+
+fn damaged_texts<T: Calls>() {
+    let formats = formats();
+    let mut count = 0;
+    for case in list::reading("read.txt").into_iter().chain(list::reading("edges.txt")) {
+        let Err(Refusal { number, place }) = case.answer else { continue };
+        count += 1;
+        let wanted = refused(0, Step::Reading, number, place);
+        expect(100, Err(wanted), |b| {
+            rewrite::<T>(case.width, &case.text, &case.format, &formats[0], b)
+        });
+        let further = [formats[1].record(), formats[2].record()];
+        expect(100, Err(wanted), |b| {
+            chain::<T>(case.width, &case.text, &case.format, &formats[0], &further, b)
+        });
+    }
+    assert!(count > 500, "damaged texts: {count}");
+}
+
+/// A format for each of the writer's refusals of a format.
+fn bad_formats() -> [(u32, Format); 6] {
+    let good = Format::new(16, 2, 10, b'p');
+    [
+        (1, Format { exponent_base: 8, ..good }),
+        (2, Format { exponent_radix: 7, ..good }),
+        (3, Format { exponent: b'F', ..good }),
+        (4, Format { required_exponent_notation: true, no_exponent_notation: true, ..good }),
+        (5, Format { min_significant_digits: 1201, ..good }),
+        (6, Format { negative_exponent_break: 1, ..good }),
+    ]
+}
+
+fn refusals_by_station<T: Calls>() {
+    let good = formats();
+    for (number, bad) in bad_formats() {
+        let at = |station| refused(station, Step::Writing, number, 0);
+        expect(90, Err(at(0)), |b| T::rewrite_f64(b"1.8p0", &good[0], &bad, b));
+        expect(90, Err(at(0)), |b| T::chain_f64(b"1.8p0", &good[0], &bad, &[], b));
+        let (one, two) = ([bad.record()], [good[1].record(), bad.record(), good[2].record()]);
+        expect(90, Err(at(1)), |b| T::chain_f64(b"1.8p0", &good[0], &good[1], &one, b));
+        expect(90, Err(at(2)), |b| T::chain_f32(b"1.8p0", &good[0], &good[1], &two, b));
+        // a reader looks at 1, 2 and 3 only
+        let reads = T::rewrite_f32(b"1.8", &bad, &good[0], &mut [0; 90]);
+        match number {
+            1..=3 => assert_eq!(reads, Err(refused(0, Step::Reading, number, 0))),
+            _ => assert_eq!(reads, Ok(5)),
+        }
+    }
+    // a digit limit can bring 2^1024 about, which the next station does not read
+    let limit = Format { max_significant_digits: 1, ..Format::new(16, 2, 10, b'p') };
+    let largest = b"1FFFFFFFFFFFFFp971";
+    let next = [good[0].record()];
+    expect(90, Err(refused(1, Step::Reading, 11, 0)), |b| {
+        T::chain_f64(largest, &good[0], &limit, &next, b)
+    });
+}
+
+/// A record of a format that fits it stands for that format: the chain writes what the writer does.
+fn records_say_the_same<T: Calls>() {
+    for line in list::writing("limit_ref.txt").into_iter().chain(list::writing("write.txt")) {
+        let Ok(text) = &line.answer else { continue };
+        let exact = Format { no_exponent_notation: true, ..Format::new(2, 2, 10, b'^') };
+        let mut first = [0; 2275];
+        let length = match line.width {
+            32 => T::write_f32(f32::from_bits(line.bits as u32), &exact, &mut first),
+            _ => T::write_f64(f64::from_bits(line.bits), &exact, &mut first),
+        }
+        .expect("a plain float");
+        let further = [line.format.record()];
+        expect(text.len() + 3, Ok(text), |b| {
+            chain::<T>(line.width, &first[..length], &exact, &exact, &further, b)
+        });
+    }
+}
+
+/// Where a number does not fit a record's bytes, the format is refused, and its record too.
+fn records_cut_to_fit<T: Calls>() {
+    let good = Format::new(16, 2, 10, b'p');
+    let wide = [
+        (1, Format { mantissa_radix: 256 + 16, ..good }),
+        (1, Format { exponent_base: 65536 + 2, ..good }),
+        (2, Format { exponent_radix: u32::MAX, ..good }),
+        (5, Format { max_significant_digits: 65536 + 3, ..good }),
+        (5, Format { min_significant_digits: 1 << 31, ..good }),
+        (6, Format { positive_exponent_break: 65536 + 9, ..good }),
+        (6, Format { positive_exponent_break: i32::MIN, ..good }),
+        (6, Format { negative_exponent_break: -65536 - 5, ..good }),
+        (6, Format { negative_exponent_break: i32::MAX, ..good }),
+    ];
+    for (number, format) in wide {
+        expect(90, Err(Refusal { number, place: 0 }), |b| T::write_f64(1.5, &format, b));
+        let further = [T::record(&format)];
+        expect(90, Err(refused(1, Step::Writing, number, 0)), |b| {
+            T::chain_f64(b"1.8", &good, &good, &further, b)
+        });
+        assert_eq!(T::record(&format), format.record());
+    }
+    for line in list::writing("write.txt") {
+        assert_eq!(T::record(&line.format), line.format.record());
+    }
+}

@@ -1,0 +1,152 @@
+/* Number text in power-of-two radices, and outage sheets.
+ *
+ * Link with libexports.a, which `rt staticlib exports` writes to target/staticlib/. Each call ends,
+ * checks its own arguments, and answers a result or a refusal: number 0 and a value, or the number
+ * and place of a refusal and value 0. docs/FORMAT.md has every call and every refusal. On a refusal
+ * every byte of the buffer is as it was; after a text, the bytes past it are as they were.
+ *
+ * What a caller in C has to see to, since no call can check it:
+ * - a pointer is not null, and is valid for as many bytes as the length behind it says, also for 0;
+ * - the buffer that a call writes into overlaps nothing else that the call is given;
+ * - a bool holds 0 or 1.
+ *
+ * No call keeps a pointer, allocates, or has a state of its own, so any thread may call any of them. */
+#ifndef HORNBILLRUG_H
+#define HORNBILLRUG_H
+
+#include <stdbool.h>
+#include <stddef.h>
+#include <stdint.h>
+
+#ifdef __cplusplus
+extern "C" {
+#endif
+
+/* Room for any text, sheet, and table; a longer text is not read. */
+#define LEXICAL_LONGEST_TEXT 2275
+#define LEXICAL_LONGEST_READ 4096
+#define OUTAGE_MOST_WINDOWS 400
+#define OUTAGE_LONGEST_SHEET 1820804
+#define OUTAGE_LONGEST_TABLE 6408
+
+/* A format: a pair of radix and base, an exponent radix, flags and options. Zero is absent in the two
+ * counts and the two breaks. */
+typedef struct {
+    bool required_exponent_notation;
+    bool no_exponent_notation;
+    bool required_exponent_sign;
+    bool no_exponent_without_fraction;
+    bool truncate;         /* the round mode of a digit limit: false rounds to the nearest */
+    bool trim_floats;
+    uint8_t exponent;      /* the mark in front of an exponent */
+    uint8_t decimal_point;
+    uint32_t mantissa_radix;
+    uint32_t exponent_base;
+    uint32_t max_significant_digits;
+    uint32_t min_significant_digits;
+    int32_t positive_exponent_break;
+    int32_t negative_exponent_break;
+    uint32_t exponent_radix;
+} lexical_format;
+
+/* The value is the length written. */
+typedef struct {
+    uint32_t number;
+    size_t place;
+    size_t value;
+} lexical_answer;
+
+/* The value is the float read. */
+typedef struct {
+    uint32_t number;
+    size_t place;
+    double value;
+} lexical_answer_f64;
+
+typedef struct {
+    uint32_t number;
+    size_t place;
+    float value;
+} lexical_answer_f32;
+
+/* The value is the length of the last text. A refusal has its station, counted from 0, and whether
+ * that station's writing refused and not its reading. A rewriting is one station. */
+typedef struct {
+    uint32_t number;
+    bool writing;
+    size_t station;
+    size_t place;
+    size_t value;
+} lexical_station_answer;
+
+/* The digits of a number in radix 2, 4, 8, 10, 16 or 32. */
+lexical_answer lexical_write_integer(uint64_t value, uint32_t radix, uint8_t *buffer, size_t length);
+
+/* The text of a float. */
+lexical_answer lexical_write_f64(double x, lexical_format format, uint8_t *buffer, size_t length);
+lexical_answer lexical_write_f32(float x, lexical_format format, uint8_t *buffer, size_t length);
+
+/* The float nearest to a text's value, ties to even. */
+lexical_answer_f64 lexical_read_f64(const uint8_t *text, size_t text_length, lexical_format format);
+lexical_answer_f32 lexical_read_f32(const uint8_t *text, size_t text_length, lexical_format format);
+
+/* A text that stands in one format, rewritten in another. */
+lexical_station_answer lexical_rewrite_f64(const uint8_t *text, size_t text_length,
+                                           lexical_format from, lexical_format to,
+                                           uint8_t *buffer, size_t length);
+lexical_station_answer lexical_rewrite_f32(const uint8_t *text, size_t text_length,
+                                           lexical_format from, lexical_format to,
+                                           uint8_t *buffer, size_t length);
+
+/* A text rewritten by station after station: the first has the format `first`, each further one that
+ * of a record of 19 bytes, one behind the other in `further`. */
+lexical_station_answer lexical_chain_f64(const uint8_t *text, size_t text_length,
+                                         lexical_format from, lexical_format first,
+                                         const uint8_t *further, size_t further_length,
+                                         uint8_t *buffer, size_t length);
+lexical_station_answer lexical_chain_f32(const uint8_t *text, size_t text_length,
+                                         lexical_format from, lexical_format first,
+                                         const uint8_t *further, size_t further_length,
+                                         uint8_t *buffer, size_t length);
+
+/* The sheet of an outage table, and the table of a sheet. */
+lexical_answer outage_table_to_sheet(const uint8_t *table, size_t table_length,
+                                     lexical_format format, uint8_t *sheet, size_t length);
+lexical_answer outage_sheet_to_table(const uint8_t *sheet, size_t sheet_length,
+                                     lexical_format format, uint8_t *table, size_t length);
+
+#define LEXICAL_RECORD 19
+
+/* A format's record, for a chain. A number that does not fit its bytes becomes the greatest or least
+ * that does; such a format is refused, and its record with the same number. */
+static inline void lexical_format_record(lexical_format format, uint8_t record[LEXICAL_RECORD]) {
+    const uint32_t bytes[3] = {format.mantissa_radix, format.exponent_base, format.exponent_radix};
+    const bool flags[6] = {format.required_exponent_notation, format.no_exponent_notation,
+                           format.required_exponent_sign, format.no_exponent_without_fraction,
+                           format.trim_floats, format.truncate};
+    const uint32_t counts[2] = {format.max_significant_digits, format.min_significant_digits};
+    const int32_t breaks[2] = {format.positive_exponent_break, format.negative_exponent_break};
+    for (int i = 0; i < 3; i++) {
+        record[i] = (uint8_t)(bytes[i] > UINT8_MAX ? UINT8_MAX : bytes[i]);
+    }
+    for (int i = 0; i < 6; i++) {
+        record[3 + i] = flags[i];
+    }
+    for (int i = 0; i < 2; i++) {
+        const uint32_t count = counts[i] > UINT16_MAX ? UINT16_MAX : counts[i];
+        const int32_t high = breaks[i] > INT16_MAX ? INT16_MAX : breaks[i];
+        const uint32_t at = (uint32_t)(high < INT16_MIN ? INT16_MIN : high);
+        record[9 + 2 * i] = (uint8_t)count;
+        record[10 + 2 * i] = (uint8_t)(count >> 8);
+        record[13 + 2 * i] = (uint8_t)at;
+        record[14 + 2 * i] = (uint8_t)(at >> 8);
+    }
+    record[17] = format.decimal_point;
+    record[18] = format.exponent;
+}
+
+#ifdef __cplusplus
+}
+#endif
+
+#endif
