@@ -89,7 +89,7 @@ pub fn check(case: &Case) -> Result<usize, Difference> {
     if answer.number != 0 {
         return Err(Difference::Refused(answer));
     }
-    if answer != Answer::length(length) || lent[..length] != *text {
+    if answer != ours::length(length) || lent[..length] != *text {
         return Err(Difference::Text);
     }
     if !holds(&lent, &text) {
@@ -98,13 +98,13 @@ pub fn check(case: &Case) -> Result<usize, Difference> {
 
     let mut lent = BEFORE;
     let answer = ours::write(case, &mut lent[..length]);
-    if answer != Answer::length(length) || !holds(&lent, &text) {
+    if answer != ours::length(length) || !holds(&lent, &text) {
         return Err(Difference::ExactBuffer);
     }
 
     let mut lent = BEFORE;
     let answer = ours::write(case, &mut lent[..length - 1]);
-    if answer != Answer::refused(SHORT) || !holds(&lent, &[]) {
+    if answer != ours::refused(SHORT) || !holds(&lent, &[]) {
         return Err(Difference::ShortBuffer);
     }
     Ok(length)
