@@ -1,13 +1,16 @@
 -- A number in radix 10: one digit more, by its cases, and where the first byte decides. Assumes nothing.
-use Prim.Native.Nat.{ℕ, suc, _+_, _*_, _≤_, _<_}
-use mathlib.Core.Path.{_≡_, refl}
+use Prim.Native.Nat.{ℕ, _+_, _*_, _≤_, _<_}
+use mathlib.Core.Path.{_≡_, refl, sym, _∙_}
 use mathlib.Core.List.{List, [], _∷_}
 use mathlib.Core.Option.{none, some}
+use native.Mathlib.Numerals.{add-one}
 use native.Mathlib.Omega.{arith}
 use borrow.Author.Tests.{le-leb, lt-leb, lt-ltb, le-ltb, eq-eqb}
 use lib.ListN.{length, drop, getD, drop-of-length-le}
 use lib.Seq.{drop-cons}
-use Rattle.lexical_util.specs.Digit.{digitValue, digitIn}
+use Rattle.lexical_util.specs.Digit.{digitIn}
+use Rattle.lexical_reader.specs.Place.{digitAt, placeAfter}
+use Rattle.lexical_reader.proofs.PlaceLaws.{digit-here, place-here}
 use Rattle.outage.specs.Sheet.{numberOn, numberIn}
 
 -- ---- the digits of l from the place i on, behind those that spell a
@@ -16,22 +19,22 @@ module _ (limit a : ℕ) (l : List ℕ) (i : ℕ) where
   unfolding numberOn
   at-end h = rw (drop-of-length-le l {i = i} h)
 
-  pub at-other : i < length l → digitValue (getD l i 0) ≡ none → numberOn limit a (drop i l) ≡ none
+  pub at-other : i < length l → digitAt l i ≡ none → numberOn limit a (drop i l) ≡ none
   unfolding numberOn digitIn
-  at-other h e = rw (drop-cons l i 0 h, e)
+  at-other h e = rw (drop-cons l i 0 h, sym (digit-here l i h) ∙ e)
 
-  module _ (d : ℕ) (h : i < length l) (e : digitValue (getD l i 0) ≡ some d) where
+  module _ (d : ℕ) (h : i < length l) (e : digitAt l i ≡ some d) where
     pub at-letter : 10 ≤ d → numberOn limit a (drop i l) ≡ none
     unfolding numberOn digitIn
-    at-letter k = rw (drop-cons l i 0 h, e, le-ltb d 10 k)
+    at-letter k = rw (drop-cons l i 0 h, sym (digit-here l i h) ∙ e, le-ltb d 10 k)
 
     pub at-above : d < 10 → limit < a * 10 + d → numberOn limit a (drop i l) ≡ none
     unfolding numberOn digitIn
-    at-above k m = rw (drop-cons l i 0 h, e, lt-ltb d 10 k, lt-leb (a * 10 + d) limit m)
+    at-above k m = rw (drop-cons l i 0 h, sym (digit-here l i h) ∙ e, lt-ltb d 10 k, lt-leb (a * 10 + d) limit m)
 
-    pub at-next : d < 10 → a * 10 + d ≤ limit → numberOn limit a (drop i l) ≡ numberOn limit (a * 10 + d) (drop (suc i) l)
+    pub at-next : d < 10 → a * 10 + d ≤ limit → numberOn limit a (drop i l) ≡ numberOn limit (a * 10 + d) (drop (placeAfter l i) l)
     unfolding numberOn digitIn
-    at-next k m = rw (drop-cons l i 0 h, e, lt-ltb d 10 k, le-leb (a * 10 + d) limit m)
+    at-next k m = rw (drop-cons l i 0 h, sym (digit-here l i h) ∙ e, lt-ltb d 10 k, le-leb (a * 10 + d) limit m, place-here l i h, add-one)
 
 -- ---- the first byte
 module _ (limit : ℕ) where

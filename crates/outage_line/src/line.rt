@@ -4,8 +4,8 @@ ghost use Prim.Native.Nat.{_≤_};
 ghost use lib.ListN.{length};
 ghost use Rattle.outage.specs.Sheet.{before, numberOn, numberIn};
 ghost use Rattle.outage_line.specs.Number.{ofNumber};
+use lexical_reader::next_digit;
 use lexical_util::DigitValue;
-use lexical_util::digit_value;
 
 pub enum Number {
     Is(u32),
@@ -34,7 +34,9 @@ fn number_on(text: &[u8], limit: u32) -> Number
     let mut value: u32 = 0;
     let mut at: usize = 0;
     while at < text.len() {
-        let DigitValue::Digit(digit) = digit_value(text[at]) else {
+        let here = next_digit(text, at);
+        let found = here.digit;
+        let DigitValue::Digit(digit) = found else {
             return Number::Wrong;
         };
         if digit > 9 {
@@ -45,7 +47,7 @@ fn number_on(text: &[u8], limit: u32) -> Number
             return Number::Wrong;
         }
         value = next as u32;
-        at += 1;
+        at = here.at;
     }
     Number::Is(value)
 }

@@ -1,11 +1,11 @@
 -- `outage_line::line::number_on` meets its contract. The loop's invariant: the digits left, behind the number so far, make the number of the whole. Assumes nothing.
-use Prim.Native.Nat.{_-_, _≤_}
+use Prim.Native.Nat.{_+_, _-_, _≤_}
 use mathlib.Core.Path.{_≡_, refl, sym, ap, _∙_}
-use native.Mathlib.Numerals.{add-one}
 use native.Mathlib.Omega.{arith}
 use borrow.Author.Needs.{needs}
 use lib.ListN.{length, drop}
 use Rattle.lexical_util.specs.Digit.{ofDigitValue}
+use Rattle.lexical_reader.proofs.PlaceLaws.{place-here}
 use Rattle.outage.specs.Sheet.{numberOn}
 use Rattle.outage_line.proofs.NumberLaws.{at-end, at-other, at-letter, at-above, at-next}
 use Rattle.outage_line.proofs.line.number_on.Statement.{statement}
@@ -17,34 +17,34 @@ Inv-loop text limit value₀ at₀ value at = (numberOn limit value (drop at tex
 abbrev μ-loop : tie.MeasureT-loop
 μ-loop text limit value₀ at₀ value at = length text - at
 
+-- behind the byte at the loop's place is the next place
+further : (n : tie.After-next-digit Inv-loop μ-loop) → n .next-digit .result .at ≡ n .before .before .loop .at + 1
+further n = n .next-digit .ensures .1 ∙ place-here _ _ (n .before .loop-test .taken)
+
 loop-holds : tie.Need-loop-holds Inv-loop μ-loop
 loop-holds c = (refl, omega arith, omega arith)
 
-shared-slice-read-digit-value : tie.Need-shared-slice-read-digit-value Inv-loop μ-loop
-shared-slice-read-digit-value c = omega arith
+next-digit-requires : tie.Need-next-digit-requires Inv-loop μ-loop
+next-digit-requires c κs = tt
 
-digit-value-requires : tie.Need-digit-value-requires Inv-loop μ-loop
-digit-value-requires c κs = tt
-
-enum-known-digit : tie.Need-enum-known-digit Inv-loop μ-loop
-enum-known-digit c = search needs
+enum-known-found : tie.Need-enum-known-found Inv-loop μ-loop
+enum-known-found c = search needs
 
 enum-told : tie.Need-enum-told Inv-loop μ-loop
 enum-told c = search needs
 
 returns : tie.Need-returns Inv-loop μ-loop
 returns c =
-    let l = c .before .before .before .before .before .loop in
-    let a = c .before .before .before .before .before .before .before .args in
-    let e = sym (c .before .before .digit-value .ensures) ∙ ap ofDigitValue (c .enum-told .given .1) in
-    sym (at-other (a .limit) (l .value) (a .text .now) (l .at) (omega arith) e) ∙ l .inv .0
+    let n = c .before .before in let l = n .before .before .loop in
+    let a = n .before .before .before .before .args in
+    sym (at-other (a .limit) (l .value) (a .text .now) (l .at) (omega arith) (sym (n .next-digit .ensures .0) ∙ ap ofDigitValue (c .enum-told .given .1))) ∙ l .inv .0
 
 returns-2 : tie.Need-returns-2 Inv-loop μ-loop
 returns-2 c =
-    let l = c .before .before .before .before .before .before .before .loop in
-    let a = c .before .before .before .before .before .before .before .before .before .args in
-    let g = c .before .before .digit .given in
-    let e = sym (c .before .before .before .before .digit-value .ensures) ∙ ap ofDigitValue (g .1) in
+    let n = c .before .before .before .before in let l = n .before .before .loop in
+    let a = n .before .before .before .before .args in
+    let g = c .before .before .found .given in
+    let e = sym (n .next-digit .ensures .0) ∙ ap ofDigitValue (g .1) in
     sym (at-letter (a .limit) (l .value) (a .text .now) (l .at) (g .0 .0) (omega arith) e (omega arith)) ∙ l .inv .0
 
 cast-next : tie.Need-cast-next Inv-loop μ-loop
@@ -61,28 +61,25 @@ add-next c = omega arith
 
 returns-3 : tie.Need-returns-3 Inv-loop μ-loop
 returns-3 c =
-    let l = c .before .before .before .before .before .before .before .before .loop in
-    let a = c .before .before .before .before .before .before .before .before .before .before .args in
-    let g = c .before .before .before .digit .given in
-    let e = sym (c .before .before .before .before .before .digit-value .ensures) ∙ ap ofDigitValue (g .1) in
+    let n = c .before .before .before .before .before in let l = n .before .before .loop in
+    let a = n .before .before .before .before .args in
+    let g = c .before .before .before .found .given in
+    let e = sym (n .next-digit .ensures .0) ∙ ap ofDigitValue (g .1) in
     sym (at-above (a .limit) (l .value) (a .text .now) (l .at) (g .0 .0) (omega arith) e (omega arith) (omega arith)) ∙ l .inv .0
 
 cast-value : tie.Need-cast-value Inv-loop μ-loop
 cast-value c = omega arith
 
-add-at : tie.Need-add-at Inv-loop μ-loop
-add-at c = omega arith
-
 loop-less : tie.Need-loop-less Inv-loop μ-loop
-loop-less c = omega arith
+loop-less c = omega (arith, further (c .before .before .before .before .before))
 
 loop-again : tie.Need-loop-again Inv-loop μ-loop
 loop-again c =
-    let l = c .before .before .before .before .before .before .before .before .loop in
-    let a = c .before .before .before .before .before .before .before .before .before .before .args in
-    let g = c .before .before .before .digit .given in
-    let e = sym (c .before .before .before .before .before .digit-value .ensures) ∙ ap ofDigitValue (g .1) in
-    (rw add-one (sym (at-next (a .limit) (l .value) (a .text .now) (l .at) (g .0 .0) (omega arith) e (omega arith) (omega arith)) ∙ l .inv .0), omega arith, omega arith)
+    let n = c .before .before .before .before .before in let l = n .before .before .loop in
+    let a = n .before .before .before .before .args in
+    let g = c .before .before .before .found .given in
+    let e = sym (n .next-digit .ensures .0) ∙ ap ofDigitValue (g .1) in
+    (rw (n .next-digit .ensures .1) (sym (at-next (a .limit) (l .value) (a .text .now) (l .at) (g .0 .0) (omega arith) e (omega arith) (omega arith)) ∙ l .inv .0), omega (arith, further n), omega arith)
 
 returns-4 : tie.Need-returns-4 Inv-loop μ-loop
 returns-4 c =
@@ -97,9 +94,8 @@ number-on-spec =
     Inv-loop
     μ-loop
     loop-holds
-    shared-slice-read-digit-value
-    digit-value-requires
-    enum-known-digit
+    next-digit-requires
+    enum-known-found
     enum-told
     returns
     returns-2
@@ -109,7 +105,6 @@ number-on-spec =
     add-next
     returns-3
     cast-value
-    add-at
     loop-less
     loop-again
     returns-4)
