@@ -76,6 +76,7 @@ reading =
     ∷ is "1FFFFFFFFFFFFF^971" (done 0x7fefffffffffffff)
     ∷ is "1FFFFFFFFFFFFF.1^971" (refused 11 0)
     ∷ record { name = "2/2/16, mark A: 1.0AA"; holds = reads binary64 (format 2 2 16) (options 46 65) (bytes "1.0AA") (done 0x4090000000000000) }
+    ∷ record { name = "2/2/10: 12"; holds = reads binary64 (format 2 2 10) (options 46 94) (bytes "12") (refused 9 1) }
     ∷ record { name = "32-bit largest"; holds = reads binary32 (format 16 2 10) (options 46 94) (bytes "F.FFFFF^124") (done 0x7f7fffff) }
     ∷ record { name = "mark B, a digit of the radix"; holds = reads binary64 (format 16 2 10) (options 46 66) (bytes "1") (refused 3 0) }
     ∷ []

@@ -11,7 +11,7 @@ use Rattle.lexical_text.specs.Value.{normal, exactDigits}
 use Rattle.lexical_text.specs.Limit.{multipleOf, limited}
 use Rattle.lexical_text.specs.Text.{isScientific, layoutOf, scientific, exponentText, negative, positive, text}
 use Rattle.lexical_text.specs.Write.{limitedText, floatText, writeText}
-use Rattle.lexical_text.specs.Examples.{starred, unstarred, longest}
+use Rattle.lexical_text.specs.Examples.{starred, unstarred, further, longest}
 
 pub starred-hold : failing starred ≡ []
 unfolding failing starred writeText floatText limitedText text positive negative exponentText scientific layoutOf isScientific limited multipleOf exactDigits normal writingFormat badBreaks badCounts badBytes badByte pairOf findPair pairs numeral digits digitsUpTo isRadix isDigit digitIn digitValue digitByte round units odd size span climb trailingZeros
@@ -20,6 +20,10 @@ starred-hold = refl
 pub unstarred-hold : failing unstarred ≡ []
 unfolding failing unstarred writeText floatText limitedText text positive negative exponentText scientific layoutOf isScientific limited multipleOf exactDigits normal writingFormat badBreaks badCounts badBytes badByte pairOf findPair pairs numeral digits digitsUpTo isRadix isDigit digitIn digitValue digitByte round units odd size span climb trailingZeros
 unstarred-hold = refl
+
+pub further-hold : failing further ≡ []
+unfolding failing further writeText floatText limitedText text positive negative exponentText scientific layoutOf isScientific limited multipleOf exactDigits normal writingFormat badBreaks badCounts badBytes badByte pairOf findPair pairs numeral digits digitsUpTo isRadix isDigit digitIn digitValue digitByte round units odd size span climb trailingZeros
+further-hold = refl
 
 pub longest-hold : failing longest ≡ []
 unfolding failing longest writeText floatText limitedText text positive negative exponentText scientific layoutOf isScientific limited multipleOf exactDigits normal writingFormat badBreaks badCounts badBytes badByte pairOf findPair pairs numeral digits digitsUpTo isRadix isDigit digitIn digitValue digitByte round units odd size span climb trailingZeros

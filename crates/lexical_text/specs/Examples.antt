@@ -16,19 +16,19 @@ use Rattle.lexical_format.specs.declared.options.RoundMode.the-variants.{Round,
 use Rattle.lexical_text.specs.Write.{writeText}
 
 -- r/base/exponent radix; mark "^", all else default
-abbrev formatWith : ℕ → ℕ → ℕ → Bool → Bool → Bool → NumberFormat
-formatWith radix base power required forbidden signed = record {
+abbrev formatWith : ℕ → ℕ → ℕ → Bool → Bool → Bool → Bool → NumberFormat
+formatWith radix base power required forbidden signed fraction = record {
   «mantissa_radix» = radix;
   «exponent_base» = base;
   «exponent_radix» = power;
   «required_exponent_notation» = required;
   «no_exponent_notation» = forbidden;
   «required_exponent_sign» = signed;
-  «no_exponent_without_fraction» = false;
+  «no_exponent_without_fraction» = fraction;
 }
 
 abbrev pub format : ℕ → ℕ → ℕ → Bool → Bool → NumberFormat
-format radix base power required signed = formatWith radix base power required false signed
+format radix base power required signed = formatWith radix base power required false signed false
 
 abbrev pub options : ℕ → ℕ → RoundMode → Bool → Options
 options least most mode trim = record {
@@ -108,10 +108,30 @@ unstarred =
     ∷ record { name = "-0"; holds = refuses (plain 2 2 2) default (round binary64 true 0 1) (lent 20) 7 }
     ∷ []
 
+-- the examples of docs/FORMAT.md that stand in neither list
+unfoldable pub further : List Example
+further =
+    is "2/2/2: 0, exponent required, sign" (format 2 2 2 true true) default (double 0 1) "0.0^+0"
+    ∷ is "2/2/2: 0, trim" (plain 2 2 2) trimmed (double 0 1) "0"
+    ∷ is "2/2/2: 0, trim, exponent required" (format 2 2 2 true false) trimmed (double 0 1) "0^0"
+    ∷ is "2/2/2: 0, trim, exponent required, least 5" (format 2 2 2 true false) (options 5 0 Round true) (double 0 1) "0^0"
+    ∷ is "16/16/16: 2^-5" (plain 16 16 16) default (double 1 (2 ^ 5)) "0.08"
+    ∷ is "16/16/16: 1,024, trim, least 3" (plain 16 16 16) (options 3 0 Round true) (double 1024 1) "4^2"
+    ∷ is "16/16/16: 1,024, trim, no exponent without fraction" (formatWith 16 16 16 false false false true) trimmed (double 1024 1) "4.0^2"
+    ∷ is "16/16/16: 1,024, trim, no exponent without fraction, least 3" (formatWith 16 16 16 false false false true) (options 3 0 Round true) (double 1024 1) "4.00^2"
+    ∷ is "16/16/16: 1,024, least 3" (plain 16 16 16) (options 3 0 Round false) (double 1024 1) "4.00^2"
+    ∷ is "16/2/10: 6,144" (plain 16 2 10) default (double 6144 1) "1.8^12"
+    ∷ is "16/2/10: 6,144, least 4" (plain 16 2 10) (options 4 0 Round false) (double 6144 1) "1.800^12"
+    ∷ is "16/2/10: 6,144, least 4, trim" (plain 16 2 10) (options 4 0 Round true) (double 6144 1) "1.800^12"
+    ∷ is "16/16/16: 1.5, least 4" (plain 16 16 16) (options 4 0 Round false) (double 3 2) "1.800"
+    ∷ is "16/16/16: 2^-5, least 4" (plain 16 16 16) (options 4 0 Round false) (double 1 (2 ^ 5)) "0.08000"
+    ∷ is "limit, 16/16/16: 2.5, one digit, Truncate" (plain 16 16 16) (options 0 1 Truncate false) (double 5 2) "2.0"
+    ∷ []
+
 -- the longest text, with a digit limit and without: 2,275 bytes are enough, and one less is refused
 abbrev longestIn : String → ℕ → ℕ → Answer ℕ → Example
 longestIn name most n wanted =
-    let t = writeText (formatWith 2 2 2 false true false) (options 1200 most Round false) (double 1 (2 ^ 1074)) in
+    let t = writeText (formatWith 2 2 2 false true false false) (options 1200 most Round false) (double 1 (2 ^ 1074)) in
     record { name = name; holds = sameAnswer eqb (written t (lent n)) wanted }
 
 unfoldable pub longest : List Example

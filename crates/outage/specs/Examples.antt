@@ -109,6 +109,9 @@ sheets =
     ∷ wrong "a row without LF" (lines ("1" ∷ []) ++ bytes "1 1") 15 2
     ∷ wrong "a row without a space" (lines ("1" ∷ "1.0" ∷ [])) 15 2
     ∷ wrong "a row with two spaces" (lines ("2" ∷ "1 1" ∷ "1  1" ∷ [])) 15 6
+    ∷ wrong "a row with a space in front" (lines ("1" ∷ " 1 1" ∷ [])) 15 2
+    ∷ wrong "a row with a space behind" (lines ("1" ∷ "1 1 " ∷ [])) 15 2
+    ∷ wrong "a CR before the LF" (lines ("1" ∷ []) ++ (bytes "1 1" ++ (13 ∷ 10 ∷ []))) 9 5
     ∷ wrong "a space alone" (lines ("1" ∷ " " ∷ [])) 9 2
     ∷ wrong "a start that is none" (lines ("1" ∷ "1x 1" ∷ [])) 9 3
     ∷ wrong "an end that is none" (lines ("1" ∷ "1.0p0 1x" ∷ [])) 9 9
