@@ -15,6 +15,7 @@ impl raw::Answer {
 /// Writes the digits of a number in radix 2, 4, 8, 10, 16 or 32, and answers their count.
 ///
 /// Refusals: 2, 8.
+#[inline]
 pub fn write_integer(value: u64, radix: u32, buffer: &mut [u8]) -> Result<usize, Refusal> {
     // SAFETY: pointer and length are those of one slice.
     unsafe { raw::lexical_write_integer(value, radix, buffer.as_mut_ptr(), buffer.len()) }.length()
@@ -23,12 +24,14 @@ pub fn write_integer(value: u64, radix: u32, buffer: &mut [u8]) -> Result<usize,
 /// Writes a float's text, and answers its length, which is at most [`LONGEST_TEXT`](crate::LONGEST_TEXT).
 ///
 /// Refusals: 1 to 6 for the format, 7 for a float that is negative, -0 too, or not finite, 8.
+#[inline]
 pub fn write_f64(x: f64, format: &Format, buffer: &mut [u8]) -> Result<usize, Refusal> {
     // SAFETY: pointer and length are those of one slice.
     unsafe { raw::lexical_write_f64(x, *format, buffer.as_mut_ptr(), buffer.len()) }.length()
 }
 
 /// Writes a 32-bit float's text: [`write_f64`].
+#[inline]
 pub fn write_f32(x: f32, format: &Format, buffer: &mut [u8]) -> Result<usize, Refusal> {
     // SAFETY: pointer and length are those of one slice.
     unsafe { raw::lexical_write_f32(x, *format, buffer.as_mut_ptr(), buffer.len()) }.length()
@@ -37,6 +40,7 @@ pub fn write_f32(x: f32, format: &Format, buffer: &mut [u8]) -> Result<usize, Re
 /// The float nearest to a text's value, ties to even.
 ///
 /// Refusals: 1, 2, 3 for the format, 12, 9, 10, 11 for the text.
+#[inline]
 pub fn read_f64(text: &[u8], format: &Format) -> Result<f64, Refusal> {
     // SAFETY: pointer and length are those of one slice.
     let answer = unsafe { raw::lexical_read_f64(text.as_ptr(), text.len(), *format) };
@@ -47,6 +51,7 @@ pub fn read_f64(text: &[u8], format: &Format) -> Result<f64, Refusal> {
 }
 
 /// The nearest 32-bit float, rounded once, from the text's value: [`read_f64`].
+#[inline]
 pub fn read_f32(text: &[u8], format: &Format) -> Result<f32, Refusal> {
     // SAFETY: pointer and length are those of one slice.
     let answer = unsafe { raw::lexical_read_f32(text.as_ptr(), text.len(), *format) };

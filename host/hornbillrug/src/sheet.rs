@@ -8,6 +8,7 @@ use crate::{Format, Refusal};
 ///
 /// Refusals: 1 to 6 for the format, where 5 is any digit limit too; 13; 7 and 14 with the row's index
 /// for the place; 8.
+#[inline]
 pub fn table_to_sheet(table: &[u8], format: &Format, sheet: &mut [u8]) -> Result<usize, Refusal> {
     // SAFETY: each pointer and length are those of one slice; `sheet` is borrowed alone.
     unsafe {
@@ -26,6 +27,7 @@ pub fn table_to_sheet(table: &[u8], format: &Format, sheet: &mut [u8]) -> Result
 /// [`LONGEST_TABLE`](crate::LONGEST_TABLE).
 ///
 /// Refusals: 1, 2, 3 for the format; 15; 8; a field's 12, 9, 10, 11; 14.
+#[inline]
 pub fn sheet_to_table(sheet: &[u8], format: &Format, table: &mut [u8]) -> Result<usize, Refusal> {
     // SAFETY: each pointer and length are those of one slice; `table` is borrowed alone.
     unsafe {

@@ -16,49 +16,82 @@ impl raw::StationAnswer {
     }
 }
 
+/// One of the two widths of a call.
+type Rewrite = unsafe extern "C" fn(
+    text: *const u8,
+    text_length: usize,
+    from: Format,
+    to: Format,
+    buffer: *mut u8,
+    length: usize,
+) -> raw::StationAnswer;
+
+type Chain = unsafe extern "C" fn(
+    text: *const u8,
+    text_length: usize,
+    from: Format,
+    first: Format,
+    further: *const u8,
+    further_length: usize,
+    buffer: *mut u8,
+    length: usize,
+) -> raw::StationAnswer;
+
+#[inline]
+fn rewrite(
+    call: Rewrite,
+    text: &[u8],
+    from: &Format,
+    to: &Format,
+    buffer: &mut [u8],
+) -> Result<usize, StationRefusal> {
+    let (pointer, length) = (buffer.as_mut_ptr(), buffer.len());
+    // SAFETY: each pointer and length are those of one slice; `buffer` is borrowed alone.
+    unsafe { call(text.as_ptr(), text.len(), *from, *to, pointer, length) }.length()
+}
+
+#[inline]
+fn chain(
+    call: Chain,
+    text: &[u8],
+    from: &Format,
+    first: &Format,
+    further: &[Record],
+    buffer: &mut [u8],
+) -> Result<usize, StationRefusal> {
+    let further = further.as_flattened();
+    let (records, records_length) = (further.as_ptr(), further.len());
+    let (pointer, length) = (buffer.as_mut_ptr(), buffer.len());
+    // SAFETY: each pointer and length are those of one slice; `buffer` is borrowed alone.
+    unsafe {
+        call(text.as_ptr(), text.len(), *from, *first, records, records_length, pointer, length)
+    }
+    .length()
+}
+
 /// Rewrites a text from one format into another through the nearest float, and answers its length.
 ///
 /// Refusals: those of [`read_f64`](crate::read_f64) under `from`, then those of
 /// [`write_f64`](crate::write_f64) under `to`.
+#[inline]
 pub fn rewrite_f64(
     text: &[u8],
     from: &Format,
     to: &Format,
     buffer: &mut [u8],
 ) -> Result<usize, StationRefusal> {
-    // SAFETY: each pointer and length are those of one slice; `buffer` is borrowed alone.
-    unsafe {
-        raw::lexical_rewrite_f64(
-            text.as_ptr(),
-            text.len(),
-            *from,
-            *to,
-            buffer.as_mut_ptr(),
-            buffer.len(),
-        )
-    }
-    .length()
+    rewrite(raw::lexical_rewrite_f64, text, from, to, buffer)
 }
 
 /// Rewrites a text through the nearest 32-bit float: [`rewrite_f64`].
+#[inline]
 pub fn rewrite_f32(
     text: &[u8],
     from: &Format,
     to: &Format,
     buffer: &mut [u8],
 ) -> Result<usize, StationRefusal> {
-    // SAFETY: each pointer and length are those of one slice; `buffer` is borrowed alone.
-    unsafe {
-        raw::lexical_rewrite_f32(
-            text.as_ptr(),
-            text.len(),
-            *from,
-            *to,
-            buffer.as_mut_ptr(),
-            buffer.len(),
-        )
-    }
-    .length()
+    rewrite(raw::lexical_rewrite_f32, text, from, to, buffer)
 }
 
 /// Rewrites a text in the format `first`, then in that of each further record, and answers the last
@@ -78,6 +111,7 @@ pub fn rewrite_f32(
 /// assert_eq!(&buffer[..length], b"1.1");
 /// # Ok::<(), hornbillrug::StationRefusal>(())
 /// ```
+#[inline]
 pub fn chain_f64(
     text: &[u8],
     from: &Format,
@@ -85,24 +119,11 @@ pub fn chain_f64(
     further: &[Record],
     buffer: &mut [u8],
 ) -> Result<usize, StationRefusal> {
-    let further = further.as_flattened();
-    // SAFETY: each pointer and length are those of one slice; `buffer` is borrowed alone.
-    unsafe {
-        raw::lexical_chain_f64(
-            text.as_ptr(),
-            text.len(),
-            *from,
-            *first,
-            further.as_ptr(),
-            further.len(),
-            buffer.as_mut_ptr(),
-            buffer.len(),
-        )
-    }
-    .length()
+    chain(raw::lexical_chain_f64, text, from, first, further, buffer)
 }
 
 /// A chain through a 32-bit float at each station: [`chain_f64`].
+#[inline]
 pub fn chain_f32(
     text: &[u8],
     from: &Format,
@@ -110,19 +131,5 @@ pub fn chain_f32(
     further: &[Record],
     buffer: &mut [u8],
 ) -> Result<usize, StationRefusal> {
-    let further = further.as_flattened();
-    // SAFETY: each pointer and length are those of one slice; `buffer` is borrowed alone.
-    unsafe {
-        raw::lexical_chain_f32(
-            text.as_ptr(),
-            text.len(),
-            *from,
-            *first,
-            further.as_ptr(),
-            further.len(),
-            buffer.as_mut_ptr(),
-            buffer.len(),
-        )
-    }
-    .length()
+    chain(raw::lexical_chain_f32, text, from, first, further, buffer)
 }
