@@ -32,7 +32,7 @@ module _ (F : NumberFormat) (o : Options) (row : Pair) (F-taken : Taken F o row)
       let size : length t ≡ length s + suc (length e + 1) = ap length (h .is-row) ∙ length-append s (32 ∷ (e ++ (10 ∷ []))) ∙ ap (λ (j : ℕ). length s + suc j) (length-append e (10 ∷ [])) in
       omega (arith, size, longest-text binary64 F o (w .start) s (sound .start-fits) (h .is-start), longest-text binary64 F o (w .end) e (sound .end-fits) (h .is-end))
 
-  rows-short : (ws : List Window) → All Sound ws → (t : List ℕ) → rowsText F o ws ≡ done t → length t ≤ 4552 * length ws
+  pub rows-short : (ws : List Window) → All Sound ws → (t : List ℕ) → rowsText F o ws ≡ done t → length t ≤ 4552 * length ws
   unfolding rowsText
   rows-short [] h t e = omega (arith, ap length (sym (done-same [] t e)))
   rows-short (w ∷ ws) h t e =

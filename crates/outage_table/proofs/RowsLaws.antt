@@ -1,4 +1,4 @@
--- The rows of a table, one at a time: each that passed has its texts, and the two passes over them. Assumes nothing.
+-- The rows of a table, one at a time: each that passed has its texts, and the passes over them. Assumes nothing.
 use Prim.Native.Nat.{ℕ, suc, _+_, _-_, _≤_, _<_}
 use mathlib.Core.Path.{_≡_, refl, ap, _∙_, subst}
 use mathlib.Core.List.{List, [], _∷_, _++_}
@@ -16,6 +16,9 @@ use Rattle.outage.specs.declared.window.Window.{Window}
 use Rattle.outage.specs.Table.{rowAt, rowsFrom}
 use Rattle.outage.proofs.FormatLaws.{taken}
 use Rattle.outage.proofs.TableLaws.{row-passes}
+use Rattle.outage_table.specs.declared.table.Rows.{Rows as Checked}
+use Rattle.outage_table.specs.declared.table.Rows.the-variants.{Passed, Refused}
+use Rattle.outage_table.specs.Count.{AreRows}
 use Rattle.outage_table.specs.Text.{found, rowOf, rowsOf, HasTexts, Admitted}
 use Rattle.outage_table.proofs.TextLaws.{has-text}
 
@@ -46,8 +49,13 @@ module _ (t : List ℕ) (n i : ℕ) where
       let z : n - i ≡ 0 = omega arith in
       rw z
 
+-- ---- what is said of the rows behind a row that passed is said of it and them
+pub checked-more : (c : Checked) (v : Window) (r : Answer (List Window)) → AreRows c r → AreRows c (andThen r (λ ws. done (v ∷ ws)))
+checked-more Passed v r e = rw e
+checked-more (Refused k) v r e = rw e
+
 module _ (F : NumberFormat) (o : Options) where
-  -- ---- the first pass: the length of the rows, behind others that are so long
+  -- ---- measured: the length of the rows, behind others that are so long
   abbrev pub lengthAfter : ℕ → Answer (List Window) → Answer ℕ
   lengthAfter sum r = andThen r (λ ws. done (sum + length (rowsOf F o ws)))
 
@@ -64,7 +72,7 @@ module _ (F : NumberFormat) (o : Options) where
   length-all (done ws) = ap done (omega arith)
   length-all (refused k p) = refl
 
--- ---- the second pass: the rows of `rest` have yet to be put at a place; then all of `ws` are put where the pass began
+-- ---- put: the rows of `rest` have yet to be put at a place; then all of `ws` are put where the pass began
 pub record Going (F : NumberFormat) (o : Options) (ws : List Window) (held : List ℕ) (from : ℕ) (rest : Answer (List Window)) (out : List ℕ) (at : ℕ) : Type 0 where
   pub whole : rest ≡ done (found rest)
   pub size : length out ≡ length held

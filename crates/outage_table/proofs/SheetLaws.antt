@@ -1,8 +1,11 @@
 -- The sheet of a table whose checks have passed, and the refusals before it. Assumes nothing.
-use Prim.Native.Nat.{ℕ, zero, suc, zero-le, _+_, _≤_, _<_}
+use Prim.Native.Nat.{ℕ, zero, suc, zero-le, _+_, _*_, _≤_, _<_}
 use mathlib.Core.Path.{_≡_, refl, sym, ap, _∙_}
+use mathlib.Core.Bool.{true}
 use mathlib.Core.List.{List, [], _∷_, _++_, append-assoc}
 use native.Mathlib.Omega.{arith}
+use borrow.Author.Tests.{le-leb}
+use lib.Dec.{leb}
 use lib.ListN.{length, drop, length-append}
 use Rattle.lexical_util.specs.Answer.{Answer, done, refused, andThen, written, held}
 use Rattle.lexical_util.proofs.AnswerLaws.{refused-done, done-same, text-fits, text-short}
@@ -22,8 +25,9 @@ use Rattle.outage.specs.Table.{tableCount, rowsFrom, tableWindows}
 use Rattle.outage.specs.Sheet.{rowsText, sheetOf}
 use Rattle.outage.specs.Calls.{sheetFormat, tableSheet, LongestSheet, WayBack}
 use Rattle.outage.proofs.WordLaws.{AreBytes}
-use Rattle.outage.proofs.LengthLaws.{longest-sheet}
-use Rattle.outage.proofs.TableLaws.{none-left, split, rows-count}
+use Rattle.outage.proofs.FormatLaws.{taken}
+use Rattle.outage.proofs.LengthLaws.{longest-sheet, rows-short}
+use Rattle.outage.proofs.TableLaws.{none-left, split, rows-count, rows-sound}
 use Rattle.outage.proofs.WayBackLaws.{way-back}
 use Rattle.outage_table.specs.Text.{found, rowOf, rowsOf, HasTexts, Admitted}
 use Rattle.outage_table.proofs.RowsLaws.{row-texts}
@@ -61,6 +65,12 @@ module _ (F : NumberFormat) (o : Options) where
         let s = split t n i k ws e in
         rw (s .is-all) (rows-text (s .first) (s .others) (row-texts F o A t n i (s .first) (s .is-first)) (rows-are k (suc i) (s .others) (s .is-others)))
 
+    -- two texts of at most 2,275 bytes, a space and an LF for each row
+    pub rows-most : rowsFrom t n 0 n ≡ done (found (rowsFrom t n 0 n)) → length (rowsOf F o (found (rowsFrom t n 0 n))) ≤ 4552 * n
+    rows-most f =
+        let ws = found (rowsFrom t n 0 n) in
+        rw (rows-count t n 0 n ws f) at (rows-short F o (A .0) (taken F o (A .0) (A .1)) ws (rows-sound t n 0 n ws f) (rowsOf F o ws) (rows-are n 0 ws f))
+
     pub windows-sheet : tableCount t ≡ done n → rowsFrom t n 0 n ≡ done (found (rowsFrom t n 0 n))
         → andThen (tableWindows t) (sheetOf F o) ≡ done (numeral 10 n ++ (10 ∷ rowsOf F o (found (rowsFrom t n 0 n))))
     unfolding tableWindows sheetOf
@@ -82,6 +92,13 @@ module _ (F : NumberFormat) (o : Options) where
 -- ---- the count's digits
 pub count-digits : (n : ℕ) → n ≤ 400 → (digitCount n 10 ≡ length (numeral 10 n)) × (length (numeral 10 n) ≤ 3)
 count-digits n h = (count-decimal n ∙ sym (length-numeral 10 n), omega (arith, length-numeral 10 n, count-le 10 (omega arith) 2 n (omega arith)))
+
+-- ---- room that is enough for any n rows is enough for these
+pub room-known : (F : NumberFormat) (o : Options) → Admitted F o → (t : List ℕ) (n room : ℕ) → n ≤ 400 → rowsFrom t n 0 n ≡ done (found (rowsFrom t n 0 n)) → 4 + 4552 * n ≤ room
+    → true ≡ leb (length (numeral 10 n) + 1 + length (rowsOf F o (found (rowsFrom t n 0 n)))) room
+room-known F o A t n room few f h =
+    let k : length (numeral 10 n) + 1 + length (rowsOf F o (found (rowsFrom t n 0 n))) ≤ room = omega (arith, count-digits n few .1, rows-most F o A t n f) in
+    sym (le-leb _ room k)
 
 -- ---- a sheet of n rows, and the bytes lent
 module _ (n : ℕ) (rows d : List ℕ) where

@@ -3,8 +3,8 @@ ghost use mathlib.Core.Path.{_≡_};
 ghost use Prim.Native.Nat.{_≤_, _<_};
 ghost use lib.ListN.{length};
 ghost use Rattle.outage.specs.Window.{ofCheckedWindow};
-ghost use Rattle.outage.specs.Table.{tableSize, tableCount, rowAt};
-ghost use Rattle.outage_table.specs.Count.{ofCount};
+ghost use Rattle.outage.specs.Table.{tableSize, tableCount, rowAt, rowsFrom};
+ghost use Rattle.outage_table.specs.Count.{ofCount, AreRows};
 use crate::word::word_at;
 use lexical_util::Refusal;
 use outage::CheckedWindow;
@@ -14,6 +14,12 @@ use outage::Window;
 pub(crate) enum Count {
     Rows(usize),
     Wrong,
+}
+
+// All of a table's rows, once checked, or the first refusal of one.
+pub(crate) enum Rows {
+    Passed,
+    Refused(Refusal),
 }
 
 // The header, and a table as long as it says.
@@ -66,4 +72,19 @@ pub(crate) fn row_at(table: &[u8], n: usize, i: usize) -> CheckedWindow
             CheckedWindow::Refused(Refusal { number, place: i })
         }
     }
+}
+
+// Every row, one after the other.
+pub(crate) fn check_rows(table: &[u8], n: usize) -> Rows
+    requires { ⌜ (n ≤ 400) × (length (now table) ≡ tableSize n) ⌝ }
+    ensures { λ r. ⌜ AreRows r (rowsFrom (now (table .entry)) n 0 n) ⌝ }
+{
+    let mut i: usize = 0;
+    while i < n {
+        match row_at(table, n, i) {
+            CheckedWindow::Passed(_) => i += 1,
+            CheckedWindow::Refused(refusal) => return Rows::Refused(refusal),
+        }
+    }
+    Rows::Passed
 }

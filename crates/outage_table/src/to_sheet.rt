@@ -1,7 +1,8 @@
-// Table to sheet: every row is checked and the sheet's length is known before its first byte is written.
+// Table to sheet: every row is checked, and the sheet is known to have room, before its first byte is written.
 ghost use mathlib.Core.Path.{_≡_};
 ghost use mathlib.Core.List.{_∷_, _++_};
 ghost use Prim.Native.Nat.{ℕ, _+_, _≤_};
+ghost use lib.Dec.{leb};
 ghost use lib.ListN.{length};
 ghost use Rattle.lexical_util.specs.Answer.{done, andThen, written, held, ofWritten};
 ghost use Rattle.lexical_digits.specs.Digits.{numeral};
@@ -15,6 +16,8 @@ use crate::print::put_count;
 use crate::print::put_row;
 use crate::print::row_length;
 use crate::table::Count;
+use crate::table::Rows;
+use crate::table::check_rows;
 use crate::table::row_at;
 use crate::table::table_count;
 use lexical_format::NumberFormat;
@@ -25,7 +28,7 @@ use lexical_util::Written;
 use lexical_write_integer::digit_count;
 use outage::CheckedWindow;
 
-// The first pass: every row checked, and the length of all rows.
+// The length of all rows, where they pass.
 fn rows_length(table: &[u8], n: usize, format: NumberFormat, options: Options) -> Written
     requires { ⌜ Admitted format options × (n ≤ 400) × (length (now table) ≡ tableSize n) ⌝ }
     ensures { λ r. ⌜ ofWritten r ≡ andThen (rowsFrom (now (table .entry)) n 0 n) (λ ws. done (length (rowsOf format options ws))) ⌝ }
@@ -46,7 +49,7 @@ fn rows_length(table: &[u8], n: usize, format: NumberFormat, options: Options) -
     Written::Length(sum)
 }
 
-// The second pass: the rows from a place on, where every row passed and they have room.
+// The rows from a place on, where every row passed and they have room.
 fn put_rows(
     table: &[u8],
     n: usize,
@@ -74,30 +77,42 @@ fn put_rows(
     at
 }
 
-// A sheet whose rows have passed and are so long together: 8, or the count line and the rows.
+// Whether the sheet of rows that have passed has room. It is measured only where the longest of so many rows might have none.
+fn has_room(table: &[u8], n: usize, room: usize, format: NumberFormat, options: Options) -> bool
+    requires { ⌜ Admitted format options × (n ≤ 400) × (length (now table) ≡ tableSize n)
+        × (rowsFrom (now table) n 0 n ≡ done (found (rowsFrom (now table) n 0 n))) ⌝ }
+    ensures { λ r. ⌜ r ≡ leb (length (numeral 10 n) + 1 + length (rowsOf format options (found (rowsFrom (now (table .entry)) n 0 n)))) room ⌝ }
+{
+    if room >= 4 + 4552 * n {
+        return true;
+    }
+    match rows_length(table, n, format, options) {
+        Written::Length(rows) => digit_count(n as u64, 10) + 1 + rows <= room,
+        Written::Refused(_) => false,
+    }
+}
+
+// A sheet whose rows have passed: 8, or the count line and the rows.
 fn put_sheet(
     table: &[u8],
     n: usize,
-    rows: usize,
     sheet: &mut [u8],
     format: NumberFormat,
     options: Options,
 ) -> Written
     requires { ⌜ Admitted format options × (n ≤ 400) × (length (now table) ≡ tableSize n)
-        × (rowsFrom (now table) n 0 n ≡ done (found (rowsFrom (now table) n 0 n)))
-        × (rows ≡ length (rowsOf format options (found (rowsFrom (now table) n 0 n)))) × (rows ≤ 1820800) ⌝ }
+        × (rowsFrom (now table) n 0 n ≡ done (found (rowsFrom (now table) n 0 n))) ⌝ }
     ensures { λ r. ⌜ ofWritten r ≡ written (done (numeral 10 n ++ (10 ∷ rowsOf format options (found (rowsFrom (now (table .entry)) n 0 n))))) (now (sheet .entry)) ⌝ }
     ensures { λ _. ⌜ now (sheet .exit) ≡ held (done (numeral 10 n ++ (10 ∷ rowsOf format options (found (rowsFrom (now (table .entry)) n 0 n))))) (now (sheet .entry)) ⌝ }
 {
-    let digits = digit_count(n as u64, 10);
-    if sheet.len() < digits + 1 + rows {
-        return Written::Refused(Refusal {
-            number: 8,
-            place: 0,
-        });
+    if has_room(table, n, sheet.len(), format, options) {
+        let at = put_count(sheet, n);
+        return Written::Length(put_rows(table, n, sheet, at, format, options));
     }
-    let at = put_count(sheet, n);
-    Written::Length(put_rows(table, n, sheet, at, format, options))
+    Written::Refused(Refusal {
+        number: 8,
+        place: 0,
+    })
 }
 
 // A table under a format that passed: 13, then by row, then 8.
@@ -112,9 +127,9 @@ fn print_table(table: &[u8], format: NumberFormat, options: Options, sheet: &mut
             place: 0,
         });
     };
-    match rows_length(table, n, format, options) {
-        Written::Length(rows) => put_sheet(table, n, rows, sheet, format, options),
-        Written::Refused(refusal) => Written::Refused(refusal),
+    match check_rows(table, n) {
+        Rows::Passed => put_sheet(table, n, sheet, format, options),
+        Rows::Refused(refusal) => Written::Refused(refusal),
     }
 }
 

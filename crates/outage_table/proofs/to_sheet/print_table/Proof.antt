@@ -1,15 +1,15 @@
 -- `outage_table::to_sheet::print_table` meets its contract: 13, the first refusal of a row, or the sheet of the rows, which are all found. Assumes nothing.
-use mathlib.Core.Path.{_≡_, refl, sym, ap, _∙_}
+use mathlib.Core.Path.{_≡_, refl, sym, ap, _∙_, subst}
 use mathlib.Core.List.{List}
 use borrow.Author.Needs.{needs}
-use lib.ListN.{length}
-use Rattle.lexical_util.specs.Answer.{Answer, done, ofWritten}
+use Rattle.lexical_util.specs.Answer.{Answer, done}
 use Rattle.outage.specs.declared.window.Window.{Window}
 use Rattle.outage.specs.Table.{tableCount, rowsFrom}
-use Rattle.outage_table.specs.Count.{ofCount}
-use Rattle.outage_table.specs.Text.{found, rowsOf}
+use Rattle.outage_table.specs.declared.table.Rows.{Rows}
+use Rattle.outage_table.specs.Count.{ofCount, AreRows}
+use Rattle.outage_table.specs.Text.{found}
 use Rattle.outage.proofs.TableLaws.{header}
-use Rattle.outage_table.proofs.SheetLaws.{length-found, length-refused, windows-sheet, windows-wrong, windows-refused}
+use Rattle.outage_table.proofs.SheetLaws.{windows-sheet, windows-wrong, windows-refused}
 use Rattle.outage_table.proofs.to_sheet.print_table.Statement.{statement}
 use Rattle.outage_table.proofs.to_sheet.print_table.Tie as tie
 
@@ -32,33 +32,29 @@ returns c =
     let a = k .before .before .before .args in
     rw (windows-wrong (a .format) (a .options) (a .table .now) (sym (ap ofCount (c .enum-told .given .1)) ∙ k .table-count .ensures)) (refl, refl)
 
-rows-length-requires : tie.Need-rows-length-requires
-rows-length-requires c κs =
+check-rows-requires : tie.Need-check-rows-requires
+check-rows-requires c κs =
     let h = header _ _ (counted (c .before)) in
-    (c .before .before .before .before .before .before .pre, h .few, h .size)
+    (h .few, h .size)
 
-enum-known-rows : tie.Need-enum-known-rows
-enum-known-rows c = search needs
+enum-told-2 : tie.Need-enum-told-2
+enum-told-2 c = search needs
 
--- all rows passed
 abbrev all : tie.After-n → Answer (List Window)
 all c = let n = c .n .given .0 .0 in rowsFrom (c .before .before .before .before .before .args .table .now) n 0 n
 
-rows-found : (c : tie.After-rows) → let k = c .before .before .before .before in let a = k .before .before .before .before .before .args in
-    (all k ≡ done (found (all k))) × (c .rows .given .0 .0 ≡ length (rowsOf (a .format) (a .options) (found (all k))))
-rows-found c =
-    let k = c .before .before .before .before in
-    let a = k .before .before .before .before .before .args in
-    length-found (a .format) (a .options) (all k) _ (c .before .before .rows-length .ensures .0) _ (ap ofWritten (c .rows .given .1))
+-- all rows passed
+passed : (c : tie.After-enum-told2) → let k = c .before .before .before .before in all k ≡ done (found (all k))
+passed c =
+    let r = c .before .before in
+    subst (λ (rows : Rows). AreRows rows (all (r .before .before))) (c .enum-told2 .given .1) (r .check-rows .ensures)
 
 put-sheet-requires : tie.Need-put-sheet-requires
 put-sheet-requires c κs =
-    let r = c .before .before in
-    let k = r .before .before .before .before in
-    let s = k .before .before .before .before .before in
+    let e = c .before in
+    let k = e .before .before .before .before in
     let h = header _ _ (counted k) in
-    let f = rows-found r in
-    (s .pre, h .few, h .size, f .0, f .1, r .before .before .rows-length .ensures .1 _ (ap ofWritten (r .rows .given .1)))
+    (k .before .before .before .before .before .pre, h .few, h .size, passed e)
 
 enum-known-refusal : tie.Need-enum-known-refusal
 enum-known-refusal c = search needs
@@ -69,18 +65,19 @@ same-length c = search needs
 returns-2 : tie.Need-returns-2
 returns-2 c =
     let p = c .before .before in
-    let r = p .before .before .before in
-    let k = r .before .before .before .before in
+    let e = p .before .before in
+    let k = e .before .before .before .before in
     let s = k .before .before .before .before .before in
     let a = s .args in
-    rw (windows-sheet (a .format) (a .options) (s .pre) (a .table .now) _ (counted k) (rows-found r .0)) (p .put-sheet .ensures)
+    rw (windows-sheet (a .format) (a .options) (s .pre) (a .table .now) _ (counted k) (passed e)) (p .put-sheet .ensures)
 
 returns-3 : tie.Need-returns-3
 returns-3 c =
-    let r = c .before in
-    let k = r .before .before .before .before in
+    let f = c .before in
+    let r = f .before .before in
+    let k = r .before .before in
     let a = k .before .before .before .before .before .args in
-    let refused = length-refused (a .format) (a .options) (all k) _ (r .before .before .rows-length .ensures .0) _ _ (ap ofWritten (r .refusal .given .1)) in
+    let refused = subst (λ (rows : Rows). AreRows rows (all k)) (f .refusal .given .1) (r .check-rows .ensures) in
     rw (windows-refused (a .format) (a .options) (a .table .now) _ _ _ (counted k) refused) (refl, refl)
 
 pub print-table-spec : {M : Type 1} → statement M
@@ -91,8 +88,8 @@ print-table-spec =
     enum-known-n
     enum-told
     returns
-    rows-length-requires
-    enum-known-rows
+    check-rows-requires
+    enum-told-2
     put-sheet-requires
     enum-known-refusal
     same-length
