@@ -9,12 +9,15 @@ use lib.ListN.{length}
 use lib.Pow.{pow-mono}
 use lib.Ieee.{Float, Format}
 use Rattle.lexical_util.specs.Answer.{Answer, done, refused, andThen}
+use Rattle.lexical_util.specs.declared.answer.Refusal.{Refusal}
 use Rattle.lexical_util.specs.Digit.{AreDigits}
 use Rattle.lexical_util.proofs.RadixLaws.{radix-bounds}
 use Rattle.lexical_format.specs.declared.format.Pair.{Pair}
 use Rattle.lexical_format.specs.declared.format.NumberFormat.{NumberFormat}
 use Rattle.lexical_format.specs.declared.options.Options.{Options}
-use Rattle.lexical_format.specs.Format.{readingFormat}
+use Rattle.lexical_format.specs.declared.checks.ReadingCheck.{ReadingCheck}
+use Rattle.lexical_format.specs.declared.checks.ReadingCheck.the-variants.{Passed, Refused}
+use Rattle.lexical_format.specs.Format.{readingFormat, ofReadingCheck}
 use Rattle.lexical_format.proofs.FormatLaws.{readable}
 use Rattle.lexical_reading.specs.Shape.{Shape}
 use Rattle.lexical_reading.specs.Parse.{Parsed, found, stuck, parse, ofParsed, shapeOf}
@@ -104,22 +107,26 @@ module _ (f : Format) (F : NumberFormat) (o : Options) (row : Pair) (t : List �
 
 -- ---- the format's check in front
 module _ (f : Format) (F : NumberFormat) (o : Options) (t : List ℕ) where
-  pub read-passed : (row : Pair) (a : Answer Float) → readingFormat F o ≡ done row → a ≡ readText f (grammarOf F o) t row → a ≡ readFloat f F o t
+  read-passed : (row : Pair) (a : Answer Float) → readingFormat F o ≡ done row → a ≡ readText f (grammarOf F o) t row → a ≡ readFloat f F o t
   unfolding readFloat
   read-passed row a e q = q ∙ sym (ap (λ (x : Answer Pair). andThen x (readText f (grammarOf F o) t)) e)
 
-  pub read-refused : (n p : ℕ) → readingFormat F o ≡ refused n p → refused n p ≡ readFloat f F o t
+  read-refused : (n p : ℕ) → readingFormat F o ≡ refused n p → refused n p ≡ readFloat f F o t
   unfolding readFloat
   read-refused n p e = sym (ap (λ (x : Answer Pair). andThen x (readText f (grammarOf F o) t)) e)
 
   -- what is said of the definition's answer is said of an answer that equals it
-  pub nearest-of : (a : Answer Float) → a ≡ readFloat f F o t → IsNearest f F o t a
-  nearest-of a e = subst (IsNearest f F o t) (sym e) (answer-nearest f F o t)
+  promised : (a : Answer Float) → a ≡ readFloat f F o t → (a ≡ readFloat f F o t) × (IsNearest f F o t a × IsServed f F o t a)
+  promised a e = (e, (subst (IsNearest f F o t) (sym e) (answer-nearest f F o t), subst (IsServed f F o t) (sym e) (texts-are-served f F o t)))
 
-  pub served-of : (a : Answer Float) → a ≡ readFloat f F o t → IsServed f F o t a
-  served-of a e = subst (IsServed f F o t) (sym e) (texts-are-served f F o t)
+  -- ---- the answer of each width: the check's refusal, or from the bits that both share
+  module _ (c : ReadingCheck) (checked : ofReadingCheck c ≡ readingFormat F o) where
+    pub passed : (row : Pair) → c ≡ Passed row → readingFormat F o ≡ done row
+    passed row e = sym checked ∙ ap ofReadingCheck e
 
--- ---- the answer of each width, from the bits that both share
-module _ (f : Format) (F : NumberFormat) (o : Options) (t : List ℕ) (r : FloatBits) (is : ofFloatBits f r ≡ readFloat f F o t) where
-  pub said : (x : FloatBits) → r ≡ x → (ofFloatBits f x ≡ readFloat f F o t) × (IsNearest f F o t (ofFloatBits f x) × IsServed f F o t (ofFloatBits f x))
-  said x e = let q = sym (ap (ofFloatBits f) e) ∙ is in (q, (nearest-of f F o t (ofFloatBits f x) q, served-of f F o t (ofFloatBits f x) q))
+    pub said-refused : (w : Refusal) → c ≡ Refused w → (refused (w .number) (w .place) ≡ readFloat f F o t) × (IsNearest f F o t (refused (w .number) (w .place)) × IsServed f F o t (refused (w .number) (w .place)))
+    said-refused w e = promised (refused (w .number) (w .place)) (read-refused (w .number) (w .place) (sym checked ∙ ap ofReadingCheck e))
+
+    pub said : (row : Pair) → c ≡ Passed row → (r : FloatBits) → ofFloatBits f r ≡ readText f (grammarOf F o) t row
+        → (x : FloatBits) → r ≡ x → (ofFloatBits f x ≡ readFloat f F o t) × (IsNearest f F o t (ofFloatBits f x) × IsServed f F o t (ofFloatBits f x))
+    said row p r is x e = promised (ofFloatBits f x) (read-passed row (ofFloatBits f x) (passed row p) (sym (ap (ofFloatBits f) e) ∙ is))

@@ -8,7 +8,7 @@ ghost use Rattle.lexical_util.specs.Digit.{AreDigits};
 ghost use Rattle.lexical_float.specs.Encoding.{formatOf};
 ghost use Rattle.lexical_format.specs.Format.{readingFormat};
 ghost use Rattle.lexical_reading.specs.Shape.{Shape};
-ghost use Rattle.lexical_reading.specs.Read.{grammarOf, valueOf, readText, readFloat};
+ghost use Rattle.lexical_reading.specs.Read.{grammarOf, valueOf, readText};
 ghost use Rattle.lexical_read_float.specs.Scan.{numberOf, Bounded};
 ghost use Rattle.lexical_read_float.specs.Kept.{IsFull};
 ghost use Rattle.lexical_read_float.specs.Rounding.{ofRounded, IsFinite};
@@ -22,7 +22,6 @@ use lexical_float::Width;
 use lexical_format::NumberFormat;
 use lexical_format::Options;
 use lexical_format::Pair;
-use lexical_format::ReadingCheck;
 use lexical_util::Refusal;
 
 pub(crate) enum FloatBits {
@@ -69,8 +68,8 @@ fn value_bits(number: Number, row: Pair, width: Width) -> FloatBits
     rounded_bits(rounded)
 }
 
-// A text in a format that passed the check with the row: 12, 9, then its value.
-fn text_bits(
+// A text in a format that passed the check with the row: 12, 9, then its value. Each width calls it behind the check, so that no format is copied on its way to both.
+pub(crate) fn text_bits(
     text: &[u8],
     format: NumberFormat,
     options: Options,
@@ -94,21 +93,5 @@ fn text_bits(
     match scan(text, radix, row.b, power, point, mark) {
         Scanned::Found(number) => value_bits(number, row, width),
         Scanned::Wrong(place) => FloatBits::Refused(Refusal { number: 9, place }),
-    }
-}
-
-// The same in any format, whose refusals come first.
-pub(crate) fn read_bits(
-    text: &[u8],
-    format: NumberFormat,
-    options: Options,
-    width: Width,
-) -> FloatBits
-    ensures { λ r. ⌜ ofFloatBits (formatOf width) r ≡ readFloat (formatOf width) format options (now (text .entry)) ⌝ }
-    ensures finite { λ r. ⌜ AreFinite (formatOf width) r ⌝ }
-{
-    match lexical_format::check_reading(format, options) {
-        ReadingCheck::Passed(row) => text_bits(text, format, options, row, width),
-        ReadingCheck::Refused(refusal) => FloatBits::Refused(refusal),
     }
 }

@@ -5,10 +5,11 @@ ghost use Rattle.lexical_reading.specs.Read.{readFloat};
 ghost use Rattle.lexical_reading.specs.Claims.{IsNearest, IsServed};
 ghost use Rattle.lexical_read_float.specs.Answer.{ofReadF64, ofReadF32};
 use crate::bits::FloatBits;
-use crate::bits::read_bits;
+use crate::bits::text_bits;
 use lexical_float::Width;
 use lexical_format::NumberFormat;
 use lexical_format::Options;
+use lexical_format::ReadingCheck;
 use lexical_util::Refusal;
 
 // What a call to read a float answers: the float, or a refusal with the place.
@@ -28,9 +29,12 @@ pub fn read_f64(text: &[u8], format: NumberFormat, options: Options) -> ReadF64
     ensures nearest { λ r. ⌜ IsNearest binary64 format options (now (text .entry)) (ofReadF64 r) ⌝ }
     ensures served { λ r. ⌜ IsServed binary64 format options (now (text .entry)) (ofReadF64 r) ⌝ }
 {
-    match read_bits(text, format, options, Width::Binary64) {
-        FloatBits::Bits(bits) => ReadF64::Float(f64::from_bits(bits)),
-        FloatBits::Refused(refusal) => ReadF64::Refused(refusal),
+    match lexical_format::check_reading(format, options) {
+        ReadingCheck::Passed(row) => match text_bits(text, format, options, row, Width::Binary64) {
+            FloatBits::Bits(bits) => ReadF64::Float(f64::from_bits(bits)),
+            FloatBits::Refused(refusal) => ReadF64::Refused(refusal),
+        },
+        ReadingCheck::Refused(refusal) => ReadF64::Refused(refusal),
     }
 }
 
@@ -40,8 +44,11 @@ pub fn read_f32(text: &[u8], format: NumberFormat, options: Options) -> ReadF32
     ensures nearest { λ r. ⌜ IsNearest binary32 format options (now (text .entry)) (ofReadF32 r) ⌝ }
     ensures served { λ r. ⌜ IsServed binary32 format options (now (text .entry)) (ofReadF32 r) ⌝ }
 {
-    match read_bits(text, format, options, Width::Binary32) {
-        FloatBits::Bits(bits) => ReadF32::Float(f32::from_bits(bits as u32)),
-        FloatBits::Refused(refusal) => ReadF32::Refused(refusal),
+    match lexical_format::check_reading(format, options) {
+        ReadingCheck::Passed(row) => match text_bits(text, format, options, row, Width::Binary32) {
+            FloatBits::Bits(bits) => ReadF32::Float(f32::from_bits(bits as u32)),
+            FloatBits::Refused(refusal) => ReadF32::Refused(refusal),
+        },
+        ReadingCheck::Refused(refusal) => ReadF32::Refused(refusal),
     }
 }
