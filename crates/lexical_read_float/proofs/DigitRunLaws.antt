@@ -1,10 +1,10 @@
 -- The digits in a text from a place on, one byte at a time, and a sum of digits that saturates. Assumes nothing.
-use Prim.Native.Nat.{ℕ, suc, _+_, _-_, _*_, _%_, _≤_, _<_, min}
+use Prim.Native.Nat.{ℕ, zero, suc, _+_, _*_, _≤_, _<_, min}
 use mathlib.Core.Path.{_≡_, refl, sym, ap, _∙_, subst}
 use mathlib.Core.Bool.{Bool, true, false, _&&_, and-true, and-assoc}
 use mathlib.Core.List.{List, [], _∷_}
 use mathlib.Core.Option.{Option, none, some}
-use native.Mathlib.Nat.{lt-of-not-le, mul-one, mul-le-mul-left}
+use native.Mathlib.Nat.{add-zero, zero-add, add-suc, suc-add, le-of-suc-le-suc, not-suc-le-zero, lt-of-not-le, mul-one, mul-le-mul-left}
 use native.Mathlib.Numerals.{add-one}
 use native.Mathlib.Decide.{decLe}
 use native.Mathlib.Omega.{arith}
@@ -13,9 +13,9 @@ use lib.Dec.{ltb, eqb}
 use lib.ListN.{length, drop, getD, drop-of-length-le}
 use lib.Seq.{drop-cons}
 use Rattle.lexical_util.specs.Digit.{digitValue, digitIn, readOn}
-use Rattle.lexical_util.proofs.DigitLaws.{value-figure, value-capital, value-low, value-between, value-high}
+use Rattle.lexical_util.proofs.DigitLaws.{byte-value}
 use Rattle.lexical_reading.specs.Parse.{more, run}
-use Rattle.lexical_read_float.specs.Digits.{IsValue, digitsFrom, endFrom, allZero}
+use Rattle.lexical_read_float.specs.Digits.{IsValue, AreValues, digitsFrom, endFrom, allZero}
 
 -- ---- the digit of a radix that a byte is, by a number that tells its digit value
 module _ (radix x d : ℕ) (small : radix ≤ 32) (is : IsValue (digitValue x) d) where
@@ -30,21 +30,29 @@ module _ (radix x d : ℕ) (small : radix ≤ 32) (is : IsValue (digitValue x) d
     | no g ↦ rw (is .digit (lt-of-not-le g), le-ltb d radix h)
   ]
 
--- the number that each range of bytes gives
-pub value-to-nine : (x d : ℕ) → x ≤ 57 → d < 256 → (d + 48) % 256 ≡ x → IsValue (digitValue x) d
-value-to-nine x d h f e = record {
-  digit = λ l. value-figure x (omega arith) h ∙ ap some (let z : x - 48 ≡ d = omega arith in z);
-  no-digit = λ l. value-low x (omega arith);
-}
+-- ---- the table of digit values, computed from their definition
+abbrev orNone : Option ℕ → ℕ
+orNone none = 255
+orNone (some d) = d
 
-pub value-from-a : (x d : ℕ) → 65 ≤ x → d ≡ x - 65 + 10 → IsValue (digitValue x) d
-value-from-a x d h e = record {
-  digit = λ l. value-capital x h (omega arith) ∙ ap some (let z : x - 55 ≡ d = omega arith in z);
-  no-digit = λ l. value-high x (omega arith);
-}
+abbrev entries : ℕ → ℕ → List ℕ
+entries i zero = []
+entries i (suc n) = orNone (digitValue i) ∷ entries (suc i) n
 
-pub value-other : (x : ℕ) → 57 < x → x < 65 → IsValue (digitValue x) 255
-value-other x h k = record { digit = λ l. absurd (omega arith); no-digit = λ l. value-between x h k }
+entry-is : (x : ℕ) → IsValue (digitValue x) (orNone (digitValue x))
+entry-is x = go (digitValue x) (λ d e. byte-value x d e .1)
+  where
+    go : (v : Option ℕ) → ((d : ℕ) → v ≡ some d → d < 32) → IsValue v (orNone v)
+    go none h = record { digit = λ l. absurd (omega arith); no-digit = λ l. refl }
+    go (some d) h = record { digit = λ l. refl; no-digit = λ l. absurd (omega (arith, h d refl)) }
+
+follows : (n i k : ℕ) → k < n → IsValue (digitValue (i + k)) (getD (entries i n) k 0)
+follows zero i k h = absurd (not-suc-le-zero h)
+follows (suc n) i zero h = rw (add-zero i) (entry-is i)
+follows (suc n) i (suc k) h = rw (add-suc i k ∙ sym (suc-add i k)) (follows n (suc i) k (le-of-suc-le-suc h))
+
+pub values-follow : AreValues (entries 0 256)
+values-follow = record { at = λ x h. subst (λ (y : ℕ). IsValue (digitValue y) (getD (entries 0 256) x 0)) (zero-add x) (follows 256 0 x h) }
 
 pub cons-nil : (d : ℕ) (ds : List ℕ) → d ∷ ds ≡ [] → ⊥
 cons-nil d ds e = let z : _≡_ {A = ℕ} 0 1 = cc in omega arith

@@ -6,7 +6,9 @@ ghost use lib.ListN.{length, drop};
 ghost use Rattle.lexical_reading.specs.Shape.{Sign, exponent};
 ghost use Rattle.lexical_reading.specs.Parse.{exponentDigits, signedExponent, parseTail, parse};
 ghost use Rattle.lexical_reading.specs.Read.{isNegative};
+ghost use Rattle.lexical_read_float.specs.Digits.{AreValues};
 ghost use Rattle.lexical_read_float.specs.Scan.{grammar, beginsWith, scannedTail, scannedNumber, scannedShape, IsBounded};
+use crate::digits::VALUES;
 use crate::digits::exponent_digits;
 use crate::digits::mantissa_digits;
 use crate::kept::Kept;
@@ -36,12 +38,18 @@ pub(crate) enum Scanned {
 }
 
 // One or more exponent digits behind a place, and nothing behind them.
-fn scan_exponent_digits(text: &[u8], before: usize, radix: u32, negative: bool) -> ScannedTail
-    requires { ⌜ (before < length (now text)) × (1 ≤ radix) × (radix ≤ 32) ⌝ }
+fn scan_exponent_digits(
+    values: &[u8; 256],
+    text: &[u8],
+    before: usize,
+    radix: u32,
+    negative: bool,
+) -> ScannedTail
+    requires { ⌜ AreValues (now values) × (before < length (now text)) × (1 ≤ radix) × (radix ≤ 32) ⌝ }
     ensures { λ r. ⌜ ((s : Sign) → isNegative (exponent s []) ≡ negative → r ≡ scannedTail (now (text .entry)) radix (exponentDigits radix s (drop (before + 1) (now (text .entry))))) ⌝ }
 {
     let from = before + 1;
-    let digits = exponent_digits(text, from, radix);
+    let digits = exponent_digits(values, text, from, radix);
     let end = digits.end;
     if end == from {
         return ScannedTail::Wrong(from);
@@ -57,8 +65,8 @@ fn scan_exponent_digits(text: &[u8], before: usize, radix: u32, negative: bool) 
 }
 
 // Behind the mark at a place: a "+" or "-" or neither, then the digits.
-fn scan_exponent(text: &[u8], at: usize, radix: u32) -> ScannedTail
-    requires { ⌜ (at < length (now text)) × (1 ≤ radix) × (radix ≤ 32) ⌝ }
+fn scan_exponent(values: &[u8; 256], text: &[u8], at: usize, radix: u32) -> ScannedTail
+    requires { ⌜ AreValues (now values) × (at < length (now text)) × (1 ≤ radix) × (radix ≤ 32) ⌝ }
     ensures { λ r. ⌜ r ≡ scannedTail (now (text .entry)) radix (signedExponent radix (drop (at + 1) (now (text .entry)))) ⌝ }
 {
     let next = at + 1;
@@ -67,17 +75,17 @@ fn scan_exponent(text: &[u8], at: usize, radix: u32) -> ScannedTail
     }
     let byte = text[next];
     if byte == b'+' {
-        return scan_exponent_digits(text, next, radix, false);
+        return scan_exponent_digits(values, text, next, radix, false);
     }
     if byte == b'-' {
-        return scan_exponent_digits(text, next, radix, true);
+        return scan_exponent_digits(values, text, next, radix, true);
     }
-    scan_exponent_digits(text, at, radix, false)
+    scan_exponent_digits(values, text, at, radix, false)
 }
 
 // Behind the mantissa: nothing, or the mark and an exponent.
-fn scan_tail(text: &[u8], from: usize, radix: u32, mark: u8) -> ScannedTail
-    requires { ⌜ (from ≤ length (now text)) × (1 ≤ radix) × (radix ≤ 32) ⌝ }
+fn scan_tail(values: &[u8; 256], text: &[u8], from: usize, radix: u32, mark: u8) -> ScannedTail
+    requires { ⌜ AreValues (now values) × (from ≤ length (now text)) × (1 ≤ radix) × (radix ≤ 32) ⌝ }
     ensures { λ r. ⌜ ((mantissaRadix point : ℕ) → r ≡ scannedTail (now (text .entry)) radix (parseTail (grammar mantissaRadix radix point mark) (drop from (now (text .entry))))) ⌝ }
 {
     if from == text.len() {
@@ -90,7 +98,7 @@ fn scan_tail(text: &[u8], from: usize, radix: u32, mark: u8) -> ScannedTail
     if text[from] != mark {
         return ScannedTail::Wrong(from);
     }
-    scan_exponent(text, from, radix)
+    scan_exponent(values, text, from, radix)
 }
 
 // The mantissa's digits with what stands behind them.
@@ -119,6 +127,42 @@ fn stands_at(text: &[u8], at: usize, byte: u8) -> bool
 }
 
 // A text's numbers, or the first place at which no text has this byte.
+fn scan_by(
+    values: &[u8; 256],
+    text: &[u8],
+    radix: u32,
+    b: u32,
+    exponent_radix: u32,
+    point: u8,
+    mark: u8,
+) -> Scanned
+    requires { ⌜ AreValues (now values) × (length (now text) ≤ 4096) × (radix ≤ 32) × (b ≤ 5) × (1 ≤ «exponent_radix») × («exponent_radix» ≤ 32) ⌝ }
+    ensures { λ r. ⌜ r ≡ scannedShape (now (text .entry)) b «exponent_radix» (parse (grammar radix «exponent_radix» point mark) (now (text .entry))) ⌝ }
+    ensures bounded { λ r. ⌜ IsBounded r ⌝ }
+{
+    let start = Kept {
+        bits: 0,
+        below: 0,
+        clear: true,
+    };
+    let whole = mantissa_digits(values, text, 0, radix, b, start);
+    let end = whole.end;
+    let kept = whole.kept;
+    if end == 0 {
+        return Scanned::Wrong(0);
+    }
+    if stands_at(text, end, point) {
+        let from = end + 1;
+        let fraction = mantissa_digits(values, text, from, radix, b, kept);
+        let all = fraction.kept;
+        let tail = scan_tail(values, text, fraction.end, exponent_radix, mark);
+        return with_tail(all, fraction.end - from, tail);
+    }
+    let tail = scan_tail(values, text, end, exponent_radix, mark);
+    with_tail(kept, 0, tail)
+}
+
+// The same, with the digit values that all its loops share.
 pub(crate) fn scan(
     text: &[u8],
     radix: u32,
@@ -131,24 +175,5 @@ pub(crate) fn scan(
     ensures { λ r. ⌜ r ≡ scannedShape (now (text .entry)) b «exponent_radix» (parse (grammar radix «exponent_radix» point mark) (now (text .entry))) ⌝ }
     ensures bounded { λ r. ⌜ IsBounded r ⌝ }
 {
-    let start = Kept {
-        bits: 0,
-        below: 0,
-        clear: true,
-    };
-    let whole = mantissa_digits(text, 0, radix, b, start);
-    let end = whole.end;
-    let kept = whole.kept;
-    if end == 0 {
-        return Scanned::Wrong(0);
-    }
-    if stands_at(text, end, point) {
-        let from = end + 1;
-        let fraction = mantissa_digits(text, from, radix, b, kept);
-        let all = fraction.kept;
-        let tail = scan_tail(text, fraction.end, exponent_radix, mark);
-        return with_tail(all, fraction.end - from, tail);
-    }
-    let tail = scan_tail(text, end, exponent_radix, mark);
-    with_tail(kept, 0, tail)
+    scan_by(&VALUES, text, radix, b, exponent_radix, point, mark)
 }

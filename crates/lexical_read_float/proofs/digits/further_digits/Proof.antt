@@ -12,11 +12,11 @@ use Rattle.lexical_read_float.proofs.digits.further_digits.Statement.{s
 use Rattle.lexical_read_float.proofs.digits.further_digits.Tie as tie
 
 abbrev Inv-loop : tie.InvT-loop
-Inv-loop text from radix clear₀ i₀ clear i =
+Inv-loop values text from radix clear₀ i₀ clear i =
     (i ≤ length text) × (endFrom radix text i ≡ endFrom radix text from) × ((clear && allZero (digitsFrom radix text i)) ≡ allZero (digitsFrom radix text from))
 
 abbrev μ-loop : tie.MeasureT-loop
-μ-loop text from radix clear₀ i₀ clear i = length text - i
+μ-loop values text from radix clear₀ i₀ clear i = length text - i
 
 -- no digit stands at the loop's place
 stopped : (c : tie.At-loop Inv-loop μ-loop) → digitsFrom (c .before .before .args .radix) (c .before .before .args .text .now) (c .loop .i) ≡ []
@@ -27,17 +27,17 @@ stopped c e = let v = c .loop .inv in (end-here _ _ _ _ (v .1) e, zeros-done (c 
 loop-holds : tie.Need-loop-holds Inv-loop μ-loop
 loop-holds c = (omega arith, refl, refl)
 
-shared-slice-read-digit-or-more : tie.Need-shared-slice-read-digit-or-more Inv-loop μ-loop
-shared-slice-read-digit-or-more c = search needs
+shared-slice-read-value-of : tie.Need-shared-slice-read-value-of Inv-loop μ-loop
+shared-slice-read-value-of c = search needs
 
-digit-or-more-requires : tie.Need-digit-or-more-requires Inv-loop μ-loop
-digit-or-more-requires c κs = search needs
+value-of-requires : tie.Need-value-of-requires Inv-loop μ-loop
+value-of-requires c κs = c .before .before .before .before .pre .0
 
 cast-if1 : tie.Need-cast-if1 Inv-loop μ-loop
 cast-if1 c = search needs
 
 returns : tie.Need-returns Inv-loop μ-loop
-returns c = let d = c .before in let l = d .before .before in stopped (l .before) (from-stop _ _ _ (l .loop-test .taken) (digit-above _ _ _ (l .before .before .before .pre .1) (d .digit-or-more .ensures) (c .if1 .taken)))
+returns c = let d = c .before in let l = d .before .before in stopped (l .before) (from-stop _ _ _ (l .loop-test .taken) (digit-above _ _ _ (l .before .before .before .pre .2) (d .value-of .ensures) (c .if1 .taken)))
 
 both-requires : tie.Need-both-requires Inv-loop μ-loop
 both-requires c κs = search needs
@@ -54,8 +54,8 @@ loop-again c =
     let l = d .before .before in
     let at = l .before in
     let a = at .before .before .args in
-    let more : digitsFrom (a .radix) (a .text .now) (at .loop .i) ≡ d .digit-or-more .result ∷ digitsFrom (a .radix) (a .text .now) (at .loop .i + 1) =
-    from-more _ _ (at .loop .i) _ (l .loop-test .taken) (digit-below _ _ _ (at .before .before .pre .1) (d .digit-or-more .ensures) (c .before .if1 .left)) in
+    let more : digitsFrom (a .radix) (a .text .now) (at .loop .i) ≡ d .value-of .result ∷ digitsFrom (a .radix) (a .text .now) (at .loop .i + 1) =
+    from-more _ _ (at .loop .i) _ (l .loop-test .taken) (digit-below _ _ _ (at .before .before .pre .2) (d .value-of .ensures) (c .before .if1 .left)) in
     (omega arith, end-on _ _ _ _ (at .loop .inv .1) _ more, ap (λ (z : Bool). z && allZero (digitsFrom (a .radix) (a .text .now) (at .loop .i + 1))) (c .both .ensures) ∙ zeros-on (at .loop .clear) _ _ _ _ (at .loop .inv .2) more)
 
 returns-2 : tie.Need-returns-2 Inv-loop μ-loop
@@ -68,8 +68,8 @@ further-digits-spec =
     Inv-loop
     μ-loop
     loop-holds
-    shared-slice-read-digit-or-more
-    digit-or-more-requires
+    shared-slice-read-value-of
+    value-of-requires
     cast-if1
     returns
     both-requires

@@ -11,13 +11,13 @@ few : (c : tie.After-further-digits)
     a .start .below + a .b * (c .further-digits .result .end - c .before .leading-digits .result .end) ≤ 5 * c .further-digits .result .end)
 few c =
     let s = c .before .before .before in
-    joined-below _ _ _ _ (s .args .start) _ _ (c .before .leading-digits .ensures) _ (c .further-digits .ensures .0) (s .pre .3) (s .pre .4)
+    joined-below _ _ _ _ (s .args .start) _ _ (c .before .leading-digits .ensures) _ (c .further-digits .ensures .0) (s .pre .4) (s .pre .5)
 
 leading-digits-requires : tie.Need-leading-digits-requires
-leading-digits-requires c κs = search needs
+leading-digits-requires c κs = (c .before .pre .0, omega arith, omega arith, omega arith)
 
 further-digits-requires : tie.Need-further-digits-requires
-further-digits-requires c κs = search needs
+further-digits-requires c κs = (c .before .before .pre .0, omega arith, omega arith)
 
 sub-count : tie.Need-sub-count
 sub-count c = search needs
@@ -25,11 +25,11 @@ sub-count c = search needs
 cast-count : tie.Need-cast-count
 cast-count c = search needs
 
-mul-t11 : tie.Need-mul-t11
-mul-t11 c = omega (arith, few (c .before))
+mul-t12 : tie.Need-mul-t12
+mul-t12 c = omega (arith, few (c .before))
 
-add-t12 : tie.Need-add-t12
-add-t12 c = omega (arith, few (c .before .before))
+add-t13 : tie.Need-add-t13
+add-t13 c = omega (arith, few (c .before .before))
 
 both-requires : tie.Need-both-requires
 both-requires c κs = search needs
@@ -50,7 +50,7 @@ mantissa-digits-spec =
     further-digits-requires
     sub-count
     cast-count
-    mul-t11
-    add-t12
+    mul-t12
+    add-t13
     both-requires
     returns)
