@@ -13,7 +13,7 @@ use lib.ListN.{length}
 use Rattle.lexical_read_float.specs.declared.kept.Kept.{Kept}
 use Rattle.lexical_read_float.specs.Kept.{full, keepDigit, keepDigits}
 use Rattle.lexical_read_float.specs.Digits.{digitsFrom, endFrom, allZero, Filled}
-use Rattle.lexical_read_float.proofs.DigitRunLaws.{cons-nil}
+use Rattle.lexical_read_float.proofs.DigitRunLaws.{cons-nil, end-here}
 
 -- bits that are not full have room for five more
 pub shift-small : (bits b : ℕ) → bits < full → b ≤ 5 → bits * 2 ^ b ≤ 0x7fffffffffffffe0
@@ -56,6 +56,15 @@ kept-below b k (d ∷ ds) h = elim (decLe full (k .bits)) [
   | yes f ↦ full-below b k (d ∷ ds) f
   | no f ↦ absurd (cons-nil d ds (h (lt-of-not-le f)))
 ]
+
+-- ---- digits that went into the bits up to a place, where none are left
+module _ (radix b : ℕ) (t : List ℕ) (from : ℕ) (start : Kept) (end bits : ℕ) (filled : Filled radix b t from (start .bits) end bits) (room : bits < full) where
+  pub ended : end ≡ endFrom radix t from
+  ended = end-here radix t from end (filled .ends) (filled .done room)
+
+  pub all-kept : record { bits = bits; below = start .below; clear = start .clear } ≡ keepDigits b start (digitsFrom radix t from)
+  unfolding keepDigits
+  all-kept = sym (ap (keepDigits b (record { bits = bits; below = start .below; clear = start .clear })) (filled .done room)) ∙ filled .kept (start .below) (start .clear)
 
 -- ---- digits that went into the bits up to a place, and those from there on
 module _ (radix b : ℕ) (t : List ℕ) (from : ℕ) (start : Kept) (end bits : ℕ) (filled : Filled radix b t from (start .bits) end bits) (stop : ℕ) (is : stop ≡ endFrom radix t end) where

@@ -127,14 +127,25 @@ pub(crate) fn mantissa_digits(
 {
     let leading = leading_digits(values, text, from, radix, b, start.bits);
     let end = leading.end;
+    let bits = leading.bits;
+    let below = start.below;
+    let clear = start.clear;
+    // Where the bits are not full, no digit is left.
+    if bits < 0x0400_0000_0000_0000 {
+        return MantissaDigits {
+            end,
+            kept: Kept { bits, below, clear },
+        };
+    }
     let further = further_digits(values, text, end, radix);
     let count = (further.end - end) as u32;
+    let lower = below + b * count;
     MantissaDigits {
         end: further.end,
         kept: Kept {
-            bits: leading.bits,
-            below: start.below + b * count,
-            clear: both(start.clear, further.clear),
+            bits,
+            below: lower,
+            clear: both(clear, further.clear),
         },
     }
 }
