@@ -12,7 +12,7 @@ ghost use Rattle.lexical_reading.specs.Read.{grammarOf, valueOf, readText};
 ghost use Rattle.lexical_read_float.specs.Scan.{numberOf, Bounded};
 ghost use Rattle.lexical_read_float.specs.Kept.{IsFull};
 ghost use Rattle.lexical_read_float.specs.Rounding.{ofRounded, IsFinite};
-ghost use Rattle.lexical_read_float.specs.Bits.{ofFloatBits, AreFinite};
+ghost use Rattle.lexical_read_float.specs.Bits.{ofFloatBits, AreFinite, powersOf};
 use crate::round::Rounded;
 use crate::round::round_kept;
 use crate::scan::Number;
@@ -43,7 +43,29 @@ fn rounded_bits(rounded: Rounded) -> FloatBits
     }
 }
 
-// The value of a text's numbers: digits behind the point and a negative exponent divide. 10 comes before the powers are formed.
+// The powers of two by which a number is multiplied and divided.
+struct Powers {
+    up: u32,
+    down: u32,
+}
+
+// Digits behind the point divide. So does the exponent's power where it is negative; else it multiplies.
+fn powers_of(negative: bool, places: u32, power: u32) -> Powers
+    requires { ⌜ (places ≤ 20480) × (power ≤ 163835) ⌝ }
+    ensures { λ r. ⌜ r ≡ powersOf negative places power ⌝ }
+    ensures room { λ r. ⌜ (r .up ≤ 163835) × (r .down ≤ 184315) ⌝ }
+{
+    if negative {
+        let down = places + power;
+        return Powers { up: 0, down };
+    }
+    Powers {
+        up: power,
+        down: places,
+    }
+}
+
+// The value of a text's numbers. 10 comes before the powers are formed. One call rounds, whatever the exponent's sign, so that the compiler puts it in place.
 fn value_bits(number: Number, row: Pair, width: Width) -> FloatBits
     requires { ⌜ Bounded number × IsFull (number .kept) × (row .b ≤ 5) × (row .c ≤ 5) ⌝ }
     ensures { λ r. ⌜ ((t : List ℕ) (power : ℕ) (s : Shape) → AreDigits (2 ^ row .b) (s .whole ++ s .fraction) → number ≡ numberOf t (row .b) power s → ofFloatBits (formatOf width) r ≡ valueOf (formatOf width) row power t s) ⌝ }
@@ -60,11 +82,8 @@ fn value_bits(number: Number, row: Pair, width: Width) -> FloatBits
     }
     let places = row.b * number.fraction as u32;
     let power = row.c * magnitude;
-    if exponent.negative {
-        let rounded = round_kept(kept, 0, places + power, width);
-        return rounded_bits(rounded);
-    }
-    let rounded = round_kept(kept, power, places, width);
+    let powers = powers_of(exponent.negative, places, power);
+    let rounded = round_kept(kept, powers.up, powers.down, width);
     rounded_bits(rounded)
 }
 

@@ -5,7 +5,7 @@ use native.Mathlib.Nat.{mul-le-mul}
 use native.Mathlib.Omega.{arith}
 use borrow.Author.Needs.{needs}
 use Rattle.lexical_float.specs.Encoding.{formatOf}
-use Rattle.lexical_read_float.proofs.BitsLaws.{refused-ten, value-divided, value-multiplied, kept-holds}
+use Rattle.lexical_read_float.proofs.BitsLaws.{refused-ten, value-scaled, kept-holds}
 use Rattle.lexical_read_float.proofs.bits.value_bits.Statement.{statement}
 use Rattle.lexical_read_float.proofs.bits.value_bits.Tie as tie
 
@@ -27,41 +27,23 @@ mul-places c = omega (arith, places-small (c .before .before .before .before .be
 mul-power : tie.Need-mul-power
 mul-power c = omega (arith, power-small (c .before .before .before))
 
-add-round-kept : tie.Need-add-round-kept
-add-round-kept c = omega (arith, places-small (c .before .before .before .before .before .before .before), power-small (c .before .before .before .before))
+powers-of-requires : tie.Need-powers-of-requires
+powers-of-requires c κs = (omega (arith, places-small (c .before .before .before .before .before .before)), omega (arith, power-small (c .before .before .before)))
 
 round-kept-requires : tie.Need-round-kept-requires
-round-kept-requires c κs =
-    let s = c .before .before .before .before .before .before .before in
-    (s .pre .1, s .pre .0 .few-below, omega arith, omega (arith, places-small s, power-small (c .before .before .before .before)))
+round-kept-requires c κs = let s = c .before .before .before .before .before .before .before in (s .pre .1, s .pre .0 .few-below, omega (arith, c .powers-of .ensures .1), omega (arith, c .powers-of .ensures .1))
 
 rounded-bits-requires : tie.Need-rounded-bits-requires
 rounded-bits-requires c κs = search needs
 
 returns-2 : tie.Need-returns-2
 returns-2 c =
-    let x = c .before .before .before .before .before .before in
+    let p = c .before .before in
+    let x = p .before .before .before .before in
     let a = x .before .before .before .args in
     let f = formatOf (a .width) in (
-      λ t power s are is. value-divided f (a .row) power t s (a .number) is _ (x .if1 .left) (c .before .before .if2 .taken) (c .rounded-bits .ensures .0 f ∙ c .before .round-kept .ensures .0 _ (kept-holds f (a .row) power t s (a .number) is are)),
+      λ t power s are is. value-scaled f (a .row) power t s (a .number) is _ _ (x .if1 .left) (p .powers-of .ensures .0) (c .rounded-bits .ensures .0 f ∙ c .before .round-kept .ensures .0 _ (kept-holds f (a .row) power t s (a .number) is are)),
       c .rounded-bits .ensures .1 f (c .before .round-kept .ensures .1),
-    )
-
-round-kept-requires-2 : tie.Need-round-kept-requires-2
-round-kept-requires-2 c κs =
-    let s = c .before .before .before .before .before .before .before in
-    (s .pre .1, s .pre .0 .few-below, omega (arith, places-small s, power-small (c .before .before .before .before)), omega (arith, places-small s, power-small (c .before .before .before .before)))
-
-rounded-bits-requires-2 : tie.Need-rounded-bits-requires-2
-rounded-bits-requires-2 c κs = search needs
-
-returns-3 : tie.Need-returns-3
-returns-3 c =
-    let x = c .before .before .before .before .before .before in
-    let a = x .before .before .before .args in
-    let f = formatOf (a .width) in (
-      λ t power s are is. value-multiplied f (a .row) power t s (a .number) is _ (x .if1 .left) (c .before .before .if2 .left) (c .rounded-bits2 .ensures .0 f ∙ c .before .round-kept2 .ensures .0 _ (kept-holds f (a .row) power t s (a .number) is are)),
-      c .rounded-bits2 .ensures .1 f (c .before .round-kept2 .ensures .1),
     )
 
 pub value-bits-spec : {M : Type 1} → statement M
@@ -72,10 +54,7 @@ value-bits-spec =
     cast-places
     mul-places
     mul-power
-    add-round-kept
+    powers-of-requires
     round-kept-requires
     rounded-bits-requires
-    returns-2
-    round-kept-requires-2
-    rounded-bits-requires-2
-    returns-3)
+    returns-2)
