@@ -17,12 +17,13 @@ use Rattle.lexical_reading.specs.Read.{magnitude, isNegative, exponentPlace}
 use Rattle.lexical_reading.proofs.RunLaws.{Head}
 use Rattle.lexical_reading.proofs.ParseLaws.{no-point}
 use Rattle.lexical_read_float.specs.declared.kept.Kept.{Kept}
+use Rattle.lexical_read_float.specs.declared.scan.Mantissa.{Mantissa}
 use Rattle.lexical_read_float.specs.declared.scan.ScannedTail.{ScannedTail}
 use Rattle.lexical_read_float.specs.declared.scan.ScannedTail.the-variants as tail
 use Rattle.lexical_read_float.specs.declared.scan.Scanned.{Scanned}
 use Rattle.lexical_read_float.specs.declared.scan.Scanned.the-variants as scanned
 use Rattle.lexical_read_float.specs.Kept.{empty, keepDigits}
-use Rattle.lexical_read_float.specs.Scan.{beginsWith, scannedTail, scannedNumber, scannedShape, IsBounded}
+use Rattle.lexical_read_float.specs.Scan.{beginsWith, withFraction, scannedTail, scannedNumber, scannedShape, IsBounded}
 use Rattle.lexical_read_float.specs.Digits.{digitsFrom, endFrom}
 use Rattle.lexical_read_float.proofs.KeptLaws.{keep-append}
 
@@ -144,6 +145,13 @@ begins-inside t at byte h e = go (drop at t) refl e
     go [] p q = absurd (let z : _≡_ {A = ℕ} 0 1 = cc in omega arith)
     go (x ∷ xs) p q = let n = sym (length-drop at t) ∙ ap (λ (l : List ℕ). length l) p in omega arith
 
+-- the digits behind a point
+pub fraction-some : (t : List ℕ) (radix b : ℕ) (kept : Kept) (end : ℕ) (dot : Bool) (stop : ℕ) (k : Kept) → dot ≡ true → stop ≡ endFrom radix t (end + 1) → k ≡ keepDigits b kept (digitsFrom radix t (end + 1))
+    → record { end = stop; kept = k; fraction = stop - (end + 1) } ≡ withFraction t radix b kept end dot
+fraction-some t radix b kept end dot stop k d e q =
+    let count : stop - (end + 1) ≡ length (digitsFrom radix t (end + 1)) = omega arith in
+    rw (d, q, count) (ap (λ (n : ℕ). record { end = n; kept = keepDigits b kept (digitsFrom radix t (end + 1)); fraction = length (digitsFrom radix t (end + 1)) }) e)
+
 -- the mantissa's digits with what stands behind them
 shape-tail : (t : List ℕ) (b radix : ℕ) (whole : List ℕ) (dot : Bool) (fraction : List ℕ) (p : Parsed Tail)
     → scannedShape t b radix (mapParsed (withTail whole dot fraction) p) ≡ scannedNumber (keepDigits b empty (whole ++ fraction)) (length fraction) (scannedTail t radix p)
@@ -190,24 +198,33 @@ module _ (t : List ℕ) (b : ℕ) (G : Grammar) where
     unfolding parse
     text-empty z = empty-front (run (G .radix) t .got) _ (left-got (G .radix) t) (front end is ∙ z)
 
-    pub text-plain : (k : Kept) (τ : ScannedTail) → (end ≡ 0 → ⊥) → beginsWith (G .point) (drop end t) ≡ false → k ≡ keepDigits b empty (digitsFrom (G .radix) t 0)
-        → τ ≡ scannedTail t (G .exponentRadix) (parseTail G (drop end t)) → scannedNumber k 0 τ ≡ scannedShape t b (G .exponentRadix) (parse G t)
-    unfolding parse
-    text-plain k τ z n p q =
-        ap₂ (λ (x : Kept) (y : ScannedTail). scannedNumber x 0 y) p (q ∙ ap (λ (l : List ℕ). scannedTail t (G .exponentRadix) (parseTail G l)) (sym (left-at end is)))
-        ∙ plain-front (run (G .radix) t .got) _ (λ y. z (sym (front end is) ∙ y)) (ap (beginsWith (G .point)) (left-at end is) ∙ n)
+    module _ (k : Kept) (begun : end ≡ 0 → ⊥) (kept : k ≡ keepDigits b empty (digitsFrom (G .radix) t 0)) (m : Mantissa) (τ : ScannedTail)
+        (tail-is : τ ≡ scannedTail t (G .exponentRadix) (parseTail G (drop (m .end) t))) where
+      plain : beginsWith (G .point) (drop end t) ≡ false → m ≡ withFraction t (G .radix) b k end false → scannedNumber (m .kept) (m .fraction) τ ≡ scannedShape t b (G .exponentRadix) (parse G t)
+      unfolding parse
+      plain n e =
+          ap₂ (λ (x : Mantissa) (y : ScannedTail). scannedNumber (x .kept) (x .fraction) y) e
+          (tail-is ∙ ap (λ (x : Mantissa). scannedTail t (G .exponentRadix) (parseTail G (drop (x .end) t))) e ∙ ap (λ (l : List ℕ). scannedTail t (G .exponentRadix) (parseTail G l)) (sym (left-at end is)))
+          ∙ ap (λ (x : Kept). scannedNumber x 0 (scannedTail t (G .exponentRadix) (parseTail G (run (G .radix) t .left)))) kept
+          ∙ plain-front (run (G .radix) t .got) _ (λ y. begun (sym (front end is) ∙ y)) (ap (beginsWith (G .point)) (left-at end is) ∙ n)
 
-    pub text-point : (k : Kept) (stop : ℕ) (τ : ScannedTail) → (end ≡ 0 → ⊥) → end < length t → beginsWith (G .point) (drop end t) ≡ true → stop ≡ endFrom (G .radix) t (end + 1)
-        → k ≡ keepDigits b (keepDigits b empty (digitsFrom (G .radix) t 0)) (digitsFrom (G .radix) t (end + 1))
-        → τ ≡ scannedTail t (G .exponentRadix) (parseTail G (drop stop t)) → scannedNumber k (stop - (end + 1)) τ ≡ scannedShape t b (G .exponentRadix) (parse G t)
-    unfolding parse
-    text-point k stop τ z h n s p q =
-        let more = drop (end + 1) t in
-        let count : stop - (end + 1) ≡ length (run (G .radix) more .got) = omega arith in
-        ap₂ (λ (x : Kept) (c : ℕ). scannedNumber x c τ) (p ∙ keep-append b empty (digitsFrom (G .radix) t 0) (digitsFrom (G .radix) t (end + 1))) count
-        ∙ ap (λ (y : ScannedTail). scannedNumber (keepDigits b empty (run (G .radix) t .got ++ run (G .radix) more .got)) (length (run (G .radix) more .got)) y)
-        (q ∙ ap (λ (l : List ℕ). scannedTail t (G .exponentRadix) (parseTail G l)) (ap (λ (i : ℕ). drop i t) s ∙ sym (left-from (G .radix) t (end + 1))))
-        ∙ point-front (run (G .radix) t .got) _ more (getD t end 0) (λ y. z (sym (front end is) ∙ y)) (left-at end is ∙ at-byte t end h) (sym (ap (beginsWith (G .point)) (at-byte t end h)) ∙ n)
+      pointed : end < length t → beginsWith (G .point) (drop end t) ≡ true → m ≡ withFraction t (G .radix) b k end true → scannedNumber (m .kept) (m .fraction) τ ≡ scannedShape t b (G .exponentRadix) (parse G t)
+      unfolding parse
+      pointed h n e =
+          let more = drop (end + 1) t in
+          let ds = digitsFrom (G .radix) t (end + 1) in
+          ap₂ (λ (x : Mantissa) (y : ScannedTail). scannedNumber (x .kept) (x .fraction) y) e
+          (tail-is ∙ ap (λ (x : Mantissa). scannedTail t (G .exponentRadix) (parseTail G (drop (x .end) t))) e ∙ ap (λ (l : List ℕ). scannedTail t (G .exponentRadix) (parseTail G l)) (sym (left-from (G .radix) t (end + 1))))
+          ∙ ap (λ (x : Kept). scannedNumber x (length ds) (scannedTail t (G .exponentRadix) (parseTail G (run (G .radix) more .left))))
+          (ap (λ (x : Kept). keepDigits b x ds) kept ∙ keep-append b empty (digitsFrom (G .radix) t 0) ds)
+          ∙ point-front (run (G .radix) t .got) _ more (getD t end 0) (λ y. begun (sym (front end is) ∙ y)) (left-at end is ∙ at-byte t end h) (sym (ap (beginsWith (G .point)) (at-byte t end h)) ∙ n)
+
+      pub text-mantissa : end ≤ length t → m ≡ withFraction t (G .radix) b k end (beginsWith (G .point) (drop end t)) → scannedNumber (m .kept) (m .fraction) τ ≡ scannedShape t b (G .exponentRadix) (parse G t)
+      text-mantissa h = go (beginsWith (G .point) (drop end t)) refl
+        where
+          go : (dot : Bool) → beginsWith (G .point) (drop end t) ≡ dot → m ≡ withFraction t (G .radix) b k end dot → scannedNumber (m .kept) (m .fraction) τ ≡ scannedShape t b (G .exponentRadix) (parse G t)
+          go true n = pointed (begins-inside t end (G .point) h n) n
+          go false n = plain n
 
 pub number-bounded : (k : Kept) (fraction : ℕ) (τ : ScannedTail) (r : Scanned) → k .below ≤ 20480 → fraction ≤ 4096 → r ≡ scannedNumber k fraction τ → IsBounded r
 number-bounded k fraction τ r h l e = subst IsBounded (sym e) (go τ)

@@ -1,6 +1,6 @@
 -- What the code's one pass over a text finds, by the shape that the text has. No exported contract cites it. Definitions only.
-use Prim.Native.Nat.{ℕ, _-_, _≤_, min}
-use mathlib.Core.Bool.{Bool, false}
+use Prim.Native.Nat.{ℕ, _+_, _-_, _≤_, min}
+use mathlib.Core.Bool.{Bool, true, false}
 use mathlib.Core.List.{List, [], _∷_, _++_}
 use lib.Dec.{eqb}
 use lib.ListN.{length}
@@ -8,6 +8,7 @@ use Rattle.lexical_reading.specs.Shape.{Grammar, Tail, Shape}
 use Rattle.lexical_reading.specs.Parse.{Parsed, found, stuck}
 use Rattle.lexical_reading.specs.Read.{magnitude, isNegative, exponentPlace}
 use Rattle.lexical_read_float.specs.declared.kept.Kept.{Kept}
+use Rattle.lexical_read_float.specs.declared.scan.Mantissa.{Mantissa}
 use Rattle.lexical_read_float.specs.declared.scan.Exponent.{Exponent}
 use Rattle.lexical_read_float.specs.declared.scan.ScannedTail.{ScannedTail}
 use Rattle.lexical_read_float.specs.declared.scan.ScannedTail.the-variants as tail
@@ -15,6 +16,7 @@ use Rattle.lexical_read_float.specs.declared.scan.Number.{Number}
 use Rattle.lexical_read_float.specs.declared.scan.Scanned.{Scanned}
 use Rattle.lexical_read_float.specs.declared.scan.Scanned.the-variants as scanned
 use Rattle.lexical_read_float.specs.Kept.{empty, keepDigits}
+use Rattle.lexical_read_float.specs.Digits.{digitsFrom, endFrom}
 
 abbrev pub grammar : ℕ → ℕ → ℕ → ℕ → Grammar
 grammar radix exponentRadix point mark = record { radix = radix; exponentRadix = exponentRadix; point = point; mark = mark }
@@ -23,6 +25,11 @@ grammar radix exponentRadix point mark = record { radix = radix; exponentRadix =
 abbrev pub beginsWith : ℕ → List ℕ → Bool
 beginsWith byte [] = false
 beginsWith byte (x ∷ xs) = eqb x byte
+
+-- the digits kept up to place `end` of a text t, with those behind the point if it stands there
+abbrev pub withFraction : List ℕ → ℕ → ℕ → Kept → ℕ → Bool → Mantissa
+withFraction t radix b kept end true = record { end = endFrom radix t (end + 1); kept = keepDigits b kept (digitsFrom radix t (end + 1)); fraction = length (digitsFrom radix t (end + 1)) }
+withFraction t radix b kept end false = record { end = end; kept = kept; fraction = 0 }
 
 -- the exponent of a text t
 abbrev pub exponentOf : List ℕ → ℕ → Tail → Exponent

@@ -1,13 +1,13 @@
 // The shape of a text, found in one pass, with the numbers that its parts spell; or the place of refusal 9.
 ghost use mathlib.Core.Path.{_≡_};
 ghost use mathlib.Core.List.{[]};
-ghost use Prim.Native.Nat.{ℕ, _+_, _≤_, _<_};
+ghost use Prim.Native.Nat.{ℕ, _+_, _*_, _≤_, _<_};
 ghost use lib.ListN.{length, drop};
 ghost use Rattle.lexical_reading.specs.Shape.{Sign, exponent};
 ghost use Rattle.lexical_reading.specs.Parse.{exponentDigits, signedExponent, parseTail, parse};
 ghost use Rattle.lexical_reading.specs.Read.{isNegative};
 ghost use Rattle.lexical_read_float.specs.Digits.{AreValues};
-ghost use Rattle.lexical_read_float.specs.Scan.{grammar, beginsWith, scannedTail, scannedNumber, scannedShape, IsBounded};
+ghost use Rattle.lexical_read_float.specs.Scan.{grammar, beginsWith, withFraction, scannedTail, scannedNumber, scannedShape, IsBounded};
 use crate::digits::VALUES;
 use crate::digits::exponent_digits;
 use crate::digits::mantissa_digits;
@@ -126,7 +126,46 @@ fn stands_at(text: &[u8], at: usize, byte: u8) -> bool
     text[at] == byte
 }
 
-// A text's numbers, or the first place at which no text has this byte.
+// A mantissa: where it ends, what is kept of its digits, and how many of them stand behind the point.
+struct Mantissa {
+    end: usize,
+    kept: Kept,
+    fraction: usize,
+}
+
+// The digits in front of a place, with those behind the point if it stands there.
+fn with_fraction(
+    values: &[u8; 256],
+    text: &[u8],
+    end: usize,
+    radix: u32,
+    b: u32,
+    point: u8,
+    kept: Kept,
+) -> Mantissa
+    requires { ⌜ AreValues (now values) × (end ≤ length (now text)) × (length (now text) ≤ 4096) × (radix ≤ 32) × (b ≤ 5) × (kept .below ≤ 5 * end) ⌝ }
+    ensures { λ r. ⌜ r ≡ withFraction (now (text .entry)) radix b kept end (beginsWith point (drop end (now (text .entry)))) ⌝ }
+    ensures room { λ r. ⌜ (r .end ≤ length (now (text .entry))) × (r .kept .below ≤ 5 * r .end) × (r .fraction ≤ 4096) ⌝ }
+{
+    if stands_at(text, end, point) {
+        let from = end + 1;
+        let digits = mantissa_digits(values, text, from, radix, b, kept);
+        let all = digits.kept;
+        let fraction = digits.end - from;
+        return Mantissa {
+            end: digits.end,
+            kept: all,
+            fraction,
+        };
+    }
+    Mantissa {
+        end,
+        kept,
+        fraction: 0,
+    }
+}
+
+// A text's numbers, or the first place at which no text has this byte. One call looks at what stands behind the mantissa, with a point in it or without, so that the compiler puts it in place.
 fn scan_by(
     values: &[u8; 256],
     text: &[u8],
@@ -151,15 +190,10 @@ fn scan_by(
     if end == 0 {
         return Scanned::Wrong(0);
     }
-    if stands_at(text, end, point) {
-        let from = end + 1;
-        let fraction = mantissa_digits(values, text, from, radix, b, kept);
-        let all = fraction.kept;
-        let tail = scan_tail(values, text, fraction.end, exponent_radix, mark);
-        return with_tail(all, fraction.end - from, tail);
-    }
-    let tail = scan_tail(values, text, end, exponent_radix, mark);
-    with_tail(kept, 0, tail)
+    let mantissa = with_fraction(values, text, end, radix, b, point, kept);
+    let all = mantissa.kept;
+    let tail = scan_tail(values, text, mantissa.end, exponent_radix, mark);
+    with_tail(all, mantissa.fraction, tail)
 }
 
 // The same, with the digit values that all its loops share.
