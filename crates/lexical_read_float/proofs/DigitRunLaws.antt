@@ -8,7 +8,8 @@ use native.Mathlib.Nat.{add-zero, zero-add, add-suc, suc-add, le-of-suc-le-suc, 
 use native.Mathlib.Numerals.{add-one}
 use native.Mathlib.Decide.{decLe}
 use native.Mathlib.Omega.{arith}
-use borrow.Author.Tests.{lt-ltb, le-ltb, ltb-true, ltb-false}
+use borrow.Author.Tests.{lt-ltb, le-ltb, ltb-true, ltb-false, ne-eqb}
+use lib.Bits.{bitOr, or-add-and, and-le-r}
 use lib.Dec.{ltb, eqb}
 use lib.ListN.{length, drop, getD, drop-of-length-le}
 use lib.Seq.{drop-cons}
@@ -118,11 +119,19 @@ module _ (radix x : ℕ) (ds : List ℕ) (w : ℕ) (makes : min (readOn radix x 
       ∙ ap (λ (l : List ℕ). min (readOn radix x l) 32768) (sym e)
       ∙ makes
 
--- ---- whether all digits are 0: those so far, and those still to come
-pub zeros-done : (clear : Bool) (ds : List ℕ) (w : Bool) → (clear && allZero ds) ≡ w → ds ≡ [] → clear ≡ w
-unfolding allZero
-zeros-done clear ds w makes e = sym (and-true clear) ∙ ap (λ (l : List ℕ). clear && allZero l) (sym e) ∙ makes
+-- ---- whether all digits are 0: those so far, by the bits that any of them has, and those still to come
+or-zero : (a d : ℕ) → eqb (bitOr a d) 0 ≡ (eqb a 0 && eqb d 0)
+or-zero zero d = refl
+or-zero (suc n) d =
+    let some : bitOr (suc n) d ≡ 0 → ⊥ = λ e. let s = or-add-and (suc n) d in let l = and-le-r (suc n) d in omega arith in
+    let more : suc n ≡ 0 → ⊥ = λ e. omega arith in
+    rw (ne-eqb (bitOr (suc n) d) 0 some, ne-eqb (suc n) 0 more)
 
-pub zeros-on : (clear : Bool) (ds : List ℕ) (w : Bool) (d : ℕ) (rest : List ℕ) → (clear && allZero ds) ≡ w → ds ≡ d ∷ rest → ((clear && eqb d 0) && allZero rest) ≡ w
+pub zeros-done : (seen : ℕ) (ds : List ℕ) (w : Bool) → (eqb seen 0 && allZero ds) ≡ w → ds ≡ [] → eqb seen 0 ≡ w
 unfolding allZero
-zeros-on clear ds w d rest makes e = and-assoc clear (eqb d 0) (allZero rest) ∙ ap (λ (l : List ℕ). clear && allZero l) (sym e) ∙ makes
+zeros-done seen ds w makes e = sym (and-true (eqb seen 0)) ∙ ap (λ (l : List ℕ). eqb seen 0 && allZero l) (sym e) ∙ makes
+
+pub zeros-on : (seen : ℕ) (ds : List ℕ) (w : Bool) (d : ℕ) (rest : List ℕ) → (eqb seen 0 && allZero ds) ≡ w → ds ≡ d ∷ rest → (eqb (bitOr seen d) 0 && allZero rest) ≡ w
+unfolding allZero
+zeros-on seen ds w d rest makes e =
+    ap (λ (z : Bool). z && allZero rest) (or-zero seen d) ∙ and-assoc (eqb seen 0) (eqb d 0) (allZero rest) ∙ ap (λ (l : List ℕ). eqb seen 0 && allZero l) (sym e) ∙ makes

@@ -95,22 +95,28 @@ fn leading_digits(
     LeadingDigits { end: i, bits }
 }
 
-// The digits from a place on, below full bits: only whether all are 0 matters.
+// The digits from a place on, below full bits: only whether all are 0 matters, and the bits that any of them has tell that at the end.
 fn further_digits(values: &[u8; 256], text: &[u8], from: usize, radix: u32) -> FurtherDigits
     requires { ⌜ AreValues (now values) × (from ≤ length (now text)) × (radix ≤ 32) ⌝ }
     ensures { λ r. ⌜ (r .end ≡ endFrom radix (now (text .entry)) from) × (r .clear ≡ allZero (digitsFrom radix (now (text .entry)) from)) × (r .end ≤ length (now (text .entry))) ⌝ }
 {
-    let mut clear = true;
+    let mut seen: u8 = 0;
     let mut i = from;
     while i < text.len() {
         let digit = value_of(values, text[i]);
         if digit as u32 >= radix {
-            return FurtherDigits { end: i, clear };
+            return FurtherDigits {
+                end: i,
+                clear: seen == 0,
+            };
         }
-        clear = both(clear, digit == 0);
+        seen = seen | digit;
         i += 1;
     }
-    FurtherDigits { end: i, clear }
+    FurtherDigits {
+        end: i,
+        clear: seen == 0,
+    }
 }
 
 // The digits from a place on, behind those already kept.

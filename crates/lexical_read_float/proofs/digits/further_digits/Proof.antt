@@ -1,10 +1,11 @@
 -- `lexical_read_float::digits::further_digits` meets its contract: at each place the digits so far are 0 and those still to come, or not all are. Assumes nothing.
 use Prim.Native.Nat.{_+_, _-_, _≤_}
 use mathlib.Core.List.{[], _∷_}
-use mathlib.Core.Bool.{Bool, _&&_}
-use mathlib.Core.Path.{_≡_, refl, ap, _∙_}
+use mathlib.Core.Bool.{_&&_}
+use mathlib.Core.Path.{_≡_, refl}
 use native.Mathlib.Omega.{arith}
 use borrow.Author.Needs.{needs}
+use lib.Dec.{eqb}
 use lib.ListN.{length}
 use Rattle.lexical_read_float.proofs.DigitRunLaws.{digit-below, digit-above, from-more, from-stop, from-end, end-here, end-on, zeros-done, zeros-on}
 use Rattle.lexical_read_float.specs.Digits.{allZero, digitsFrom, endFrom}
@@ -12,17 +13,17 @@ use Rattle.lexical_read_float.proofs.digits.further_digits.Statement.{s
 use Rattle.lexical_read_float.proofs.digits.further_digits.Tie as tie
 
 abbrev Inv-loop : tie.InvT-loop
-Inv-loop values text from radix clear₀ i₀ clear i =
-    (i ≤ length text) × (endFrom radix text i ≡ endFrom radix text from) × ((clear && allZero (digitsFrom radix text i)) ≡ allZero (digitsFrom radix text from))
+Inv-loop values text from radix seen₀ i₀ seen i =
+    (i ≤ length text) × (endFrom radix text i ≡ endFrom radix text from) × ((eqb seen 0 && allZero (digitsFrom radix text i)) ≡ allZero (digitsFrom radix text from))
 
 abbrev μ-loop : tie.MeasureT-loop
-μ-loop values text from radix clear₀ i₀ clear i = length text - i
+μ-loop values text from radix seen₀ i₀ seen i = length text - i
 
 -- no digit stands at the loop's place
 stopped : (c : tie.At-loop Inv-loop μ-loop) → digitsFrom (c .before .before .args .radix) (c .before .before .args .text .now) (c .loop .i) ≡ []
     → (let a = c .before .before .args in
-    (c .loop .i ≡ endFrom (a .radix) (a .text .now) (a .from)) × (c .loop .clear ≡ allZero (digitsFrom (a .radix) (a .text .now) (a .from))) × (c .loop .i ≤ length (a .text .now)))
-stopped c e = let v = c .loop .inv in (end-here _ _ _ _ (v .1) e, zeros-done (c .loop .clear) _ _ (v .2) e, v .0)
+    (c .loop .i ≡ endFrom (a .radix) (a .text .now) (a .from)) × (eqb (c .loop .seen) 0 ≡ allZero (digitsFrom (a .radix) (a .text .now) (a .from))) × (c .loop .i ≤ length (a .text .now)))
+stopped c e = let v = c .loop .inv in (end-here _ _ _ _ (v .1) e, zeros-done (c .loop .seen) _ _ (v .2) e, v .0)
 
 loop-holds : tie.Need-loop-holds Inv-loop μ-loop
 loop-holds c = (omega arith, refl, refl)
@@ -39,9 +40,6 @@ cast-if1 c = search needs
 returns : tie.Need-returns Inv-loop μ-loop
 returns c = let d = c .before in let l = d .before .before in stopped (l .before) (from-stop _ _ _ (l .loop-test .taken) (digit-above _ _ _ (l .before .before .before .pre .2) (d .value-of .ensures) (c .if1 .taken)))
 
-both-requires : tie.Need-both-requires Inv-loop μ-loop
-both-requires c κs = search needs
-
 add-i : tie.Need-add-i Inv-loop μ-loop
 add-i c = search needs
 
@@ -50,13 +48,13 @@ loop-less c = search needs
 
 loop-again : tie.Need-loop-again Inv-loop μ-loop
 loop-again c =
-    let d = c .before .before in
+    let d = c .before in
     let l = d .before .before in
     let at = l .before in
     let a = at .before .before .args in
     let more : digitsFrom (a .radix) (a .text .now) (at .loop .i) ≡ d .value-of .result ∷ digitsFrom (a .radix) (a .text .now) (at .loop .i + 1) =
-    from-more _ _ (at .loop .i) _ (l .loop-test .taken) (digit-below _ _ _ (at .before .before .pre .2) (d .value-of .ensures) (c .before .if1 .left)) in
-    (omega arith, end-on _ _ _ _ (at .loop .inv .1) _ more, ap (λ (z : Bool). z && allZero (digitsFrom (a .radix) (a .text .now) (at .loop .i + 1))) (c .both .ensures) ∙ zeros-on (at .loop .clear) _ _ _ _ (at .loop .inv .2) more)
+    from-more _ _ (at .loop .i) _ (l .loop-test .taken) (digit-below _ _ _ (at .before .before .pre .2) (d .value-of .ensures) (c .if1 .left)) in
+    (omega arith, end-on _ _ _ _ (at .loop .inv .1) _ more, zeros-on (at .loop .seen) _ _ _ _ (at .loop .inv .2) more)
 
 returns-2 : tie.Need-returns-2 Inv-loop μ-loop
 returns-2 c = stopped (c .before) (from-end _ _ _ (c .loop-test .left))
@@ -72,7 +70,6 @@ further-digits-spec =
     value-of-requires
     cast-if1
     returns
-    both-requires
     add-i
     loop-less
     loop-again
