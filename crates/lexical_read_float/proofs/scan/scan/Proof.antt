@@ -1,6 +1,5 @@
 -- `lexical_read_float::scan::scan` meets its contract: the table that it lends follows its rule. Assumes nothing.
 use native.Mathlib.Omega.{arith}
-use borrow.Author.Needs.{needs}
 use Rattle.lexical_util.specs.Digit.{digitValue}
 use Rattle.lexical_read_float.proofs.DigitRunLaws.{values-follow}
 use Rattle.lexical_read_float.proofs.scan.scan.Statement.{statement}

@@ -1,6 +1,5 @@
 -- `lexical_read_float::scan::with_fraction` meets its contract: by whether the point stands at the place. Assumes nothing.
 use Prim.Native.Nat.{_<_}
-use mathlib.Core.Bool.{Bool}
 use mathlib.Core.Path.{sym, ap, _∙_}
 use native.Mathlib.Omega.{arith}
 use borrow.Author.Needs.{needs}
