@@ -11,7 +11,8 @@ use Rattle.lexical_util.specs.Digit.{digitValue, isSome, digitIn, isDigit}
 use Rattle.lexical_format.specs.declared.format.Pair.{Pair}
 use Rattle.lexical_format.specs.declared.format.NumberFormat.{NumberFormat}
 use Rattle.lexical_format.specs.declared.options.Options.{Options}
-use Rattle.lexical_format.specs.Format.{pairOf, orAbsent, readingChecks, writingChecks, checkedPair, readingFormat, writingFormat, settled, checkedFormat}
+use Rattle.lexical_format.specs.Code.{readingOf}
+use Rattle.lexical_format.specs.Format.{pairOf, badBytes, orAbsent, readingChecks, writingChecks, checkedPair, readingFormat, writingFormat, settled, checkedFormat}
 
 -- ---- a byte by its digit value
 pub digit-of : (radix x d : ℕ) → digitValue x ≡ some d → ltb d radix ≡ isDigit radix x
@@ -34,6 +35,12 @@ pub break-given : (absent value : ℤ) → (value ≡ pos 0 → ⊥) → value �
 break-given absent (pos zero) differs = absurd (differs refl)
 break-given absent (pos (suc n)) differs = refl
 break-given absent (negsuc n) differs = refl
+
+-- ---- the reader's checks by the numbers that they look at
+pub reading-of : (F : NumberFormat) (o : Options)
+    → readingOf (F .«mantissa_radix») (F .«exponent_base») (F .«exponent_radix») (o .«decimal_point») (o .exponent) ≡ readingFormat F o
+unfolding readingOf readingFormat pairOf badBytes
+reading-of F o = refl
 
 -- ---- checks in two parts
 checked-append : {A : Type 0} (before after : List Check) (answer : Answer A) → checked (before ++ after) answer ≡ checked before (checked after answer)

@@ -1,7 +1,8 @@
 // The checks of a format, for which the Rust has assertions: document 01, refusals 1 to 6 in their order. The reader stops after 3.
 ghost use mathlib.Core.Path.{_≡_};
 ghost use Rattle.lexical_util.specs.Answer.{done, checked};
-ghost use Rattle.lexical_format.specs.Format.{badByte, badBytes, badCounts, orAbsent, outside, readingFormat, checkedFormat, settled, writingChecks, ofReadingCheck, ofWritingCheck};
+ghost use Rattle.lexical_format.specs.Format.{badByte, badCounts, orAbsent, outside, readingFormat, checkedFormat, settled, writingChecks, ofReadingCheck, ofWritingCheck};
+ghost use Rattle.lexical_format.specs.Code.{badPair, readingOf};
 use crate::format::FoundPair;
 use crate::format::NumberFormat;
 use crate::format::Pair;
@@ -44,12 +45,9 @@ fn bad_byte(radix: u32, byte: u8) -> bool
 }
 
 // 3: a bad point, a bad mark, or the two equal.
-fn bad_bytes(format: NumberFormat, options: Options) -> bool
-    ensures { λ r. ⌜ r ≡ badBytes format options ⌝ }
+fn bad_bytes(radix: u32, point: u8, mark: u8) -> bool
+    ensures { λ r. ⌜ r ≡ badPair radix point mark ⌝ }
 {
-    let radix = format.mantissa_radix;
-    let point = options.decimal_point;
-    let mark = options.exponent;
     bad_byte(radix, point) || bad_byte(radix, mark) || point == mark
 }
 
@@ -76,29 +74,39 @@ pub fn outside(least: i32, most: i32, value: i32) -> bool
     value < least || value > most
 }
 
-// The reader's check: 1, 2, 3, else the pair's row.
-pub fn check_reading(format: NumberFormat, options: Options) -> ReadingCheck
-    ensures { λ r. ⌜ ofReadingCheck r ≡ readingFormat format options ⌝ }
+// 1, 2, 3, else the pair's row. It takes the five numbers that these look at, in registers: both checks call it, and a format and options handed on in memory would have to be stored first and loaded again.
+fn check_numbers(radix: u32, base: u32, power: u32, point: u8, mark: u8) -> ReadingCheck
+    ensures { λ r. ⌜ ofReadingCheck r ≡ readingOf radix base power point mark ⌝ }
 {
-    let FoundPair::Row(pair) = find_pair(format.mantissa_radix, format.exponent_base) else {
+    let FoundPair::Row(pair) = find_pair(radix, base) else {
         return ReadingCheck::Refused(Refusal {
             number: 1,
             place: 0,
         });
     };
-    if !lexical_util::is_radix(format.exponent_radix) {
+    if !lexical_util::is_radix(power) {
         return ReadingCheck::Refused(Refusal {
             number: 2,
             place: 0,
         });
     }
-    if bad_bytes(format, options) {
+    if bad_bytes(radix, point, mark) {
         return ReadingCheck::Refused(Refusal {
             number: 3,
             place: 0,
         });
     }
     ReadingCheck::Passed(pair)
+}
+
+// The reader's check: 1, 2, 3, else the pair's row.
+pub fn check_reading(format: NumberFormat, options: Options) -> ReadingCheck
+    ensures { λ r. ⌜ ofReadingCheck r ≡ readingFormat format options ⌝ }
+{
+    let radix = format.mantissa_radix;
+    let base = format.exponent_base;
+    let power = format.exponent_radix;
+    check_numbers(radix, base, power, options.decimal_point, options.exponent)
 }
 
 // 4, 5, 6 of a format that passed the reader's check with the row.
@@ -137,7 +145,10 @@ fn check_writing(format: NumberFormat, options: Options, row: Pair) -> WritingCh
 pub fn check(format: NumberFormat, options: Options) -> WritingCheck
     ensures { λ r. ⌜ ofWritingCheck r ≡ checkedFormat format options ⌝ }
 {
-    match check_reading(format, options) {
+    let radix = format.mantissa_radix;
+    let base = format.exponent_base;
+    let power = format.exponent_radix;
+    match check_numbers(radix, base, power, options.decimal_point, options.exponent) {
         ReadingCheck::Passed(row) => check_writing(format, options, row),
         ReadingCheck::Refused(refusal) => WritingCheck::Refused(refusal),
     }

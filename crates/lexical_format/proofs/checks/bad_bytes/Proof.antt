@@ -3,7 +3,7 @@ use mathlib.Core.Path.{_≡_, sym, _∙_}
 use mathlib.Core.Bool.{_||_, or-assoc}
 use mathlib.Core.Logic.{⊎-elim}
 use borrow.Author.Needs.{needs}
-use Rattle.lexical_format.specs.Format.{badByte, badBytes}
+use Rattle.lexical_format.specs.Format.{badByte}
 use Rattle.lexical_format.proofs.checks.bad_bytes.Statement.{statement}
 use Rattle.lexical_format.proofs.checks.bad_bytes.Tie as tie
 
@@ -15,18 +15,16 @@ bad-byte-requires-2 c κs = search needs
 
 -- whether either is bad by itself
 either : (c : tie.Joined1)
-    → c .if1 .if2 ≡ (badByte (c .before .before .args .format .«mantissa_radix») (c .before .before .args .options .«decimal_point»)
-    || badByte (c .before .before .args .format .«mantissa_radix») (c .before .before .args .options .exponent))
+    → c .if1 .if2 ≡ (badByte (c .before .before .args .radix) (c .before .before .args .point)
+    || badByte (c .before .before .args .radix) (c .before .before .args .mark))
 either c =
     let point = c .before .bad-byte .ensures in
     ⊎-elim (λ w. rw (sym point ∙ w .0 .taken) (w .1 ∙ w .0 .taken)) (λ w. rw (sym point ∙ w .0 .left) (w .2 ∙ w .1 .ensures)) (c .if1 .came)
 
 returns : tie.Need-returns
-unfolding badBytes
 returns c = rw (← or-assoc, ← either (c .before), c .if2 .taken)
 
 returns-2 : tie.Need-returns-2
-unfolding badBytes
 returns-2 c = rw (← or-assoc, ← either (c .before), c .if2 .left)
 
 pub bad-bytes-spec : {M : Type 1} → statement M

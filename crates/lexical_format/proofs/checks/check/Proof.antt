@@ -2,12 +2,12 @@
 use mathlib.Core.Path.{sym, ap, _∙_}
 use borrow.Author.Needs.{needs}
 use Rattle.lexical_format.specs.Format.{ofReadingCheck}
-use Rattle.lexical_format.proofs.CheckLaws.{writer-after-reader}
+use Rattle.lexical_format.proofs.CheckLaws.{reading-of, writer-after-reader}
 use Rattle.lexical_format.proofs.checks.check.Statement.{statement}
 use Rattle.lexical_format.proofs.checks.check.Tie as tie
 
-check-reading-requires : tie.Need-check-reading-requires
-check-reading-requires c κs = search needs
+check-numbers-requires : tie.Need-check-numbers-requires
+check-numbers-requires c κs = search needs
 
 enum-known-row : tie.Need-enum-known-row
 enum-known-row c = search needs
@@ -21,18 +21,18 @@ enum-known-refusal c = search needs
 returns : tie.Need-returns
 returns c =
     let r = c .before .before in
-    rw (writer-after-reader, sym (r .before .before .check-reading .ensures) ∙ ap ofReadingCheck (r .row .given .1)) (c .check-writing .ensures)
+    rw (writer-after-reader, ← reading-of, sym (r .before .before .check-numbers .ensures) ∙ ap ofReadingCheck (r .row .given .1)) (c .check-writing .ensures)
 
 returns-2 : tie.Need-returns-2
 returns-2 c =
     let r = c .before in
-    rw (writer-after-reader, sym (r .before .before .check-reading .ensures) ∙ ap ofReadingCheck (r .refusal .given .1))
+    rw (writer-after-reader, ← reading-of, sym (r .before .before .check-numbers .ensures) ∙ ap ofReadingCheck (r .refusal .given .1))
 
 pub check-spec : {M : Type 1} → statement M
 check-spec =
     tie.close
     (tie.spec
-    check-reading-requires
+    check-numbers-requires
     enum-known-row
     check-writing-requires
     enum-known-refusal

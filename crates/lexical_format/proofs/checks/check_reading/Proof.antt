@@ -1,67 +1,15 @@
--- `lexical_format::checks::check_reading` meets its contract: each check is asked where those before it let through. Assumes nothing.
-use mathlib.Core.Path.{_≡_, sym, ap, _∙_}
-use mathlib.Core.Bool.{not}
-use mathlib.Core.Option.{some}
+-- `lexical_format::checks::check_reading` meets its contract: the checks look at these five numbers alone. Assumes nothing.
+use mathlib.Core.Path.{_∙_}
 use borrow.Author.Needs.{needs}
-use Rattle.lexical_util.specs.Digit.{isRadix}
-use Rattle.lexical_format.specs.Format.{pairOf, readingFormat, ofFoundPair}
+use Rattle.lexical_format.proofs.CheckLaws.{reading-of}
 use Rattle.lexical_format.proofs.checks.check_reading.Statement.{statement}
 use Rattle.lexical_format.proofs.checks.check_reading.Tie as tie
 
-find-pair-requires : tie.Need-find-pair-requires
-find-pair-requires c κs = search needs
-
-enum-known-pair : tie.Need-enum-known-pair
-enum-known-pair c = search needs
-
-enum-told : tie.Need-enum-told
-enum-told c = search needs
+check-numbers-requires : tie.Need-check-numbers-requires
+check-numbers-requires c κs = search needs
 
 returns : tie.Need-returns
-unfolding readingFormat pairOf
-returns c = rw (sym (c .before .before .find-pair .ensures) ∙ ap ofFoundPair (c .enum-told .given .1))
-
--- the pair is known
-found : (c : tie.After-pair) → pairOf (c .before .before .before .args .format) ≡ some (c .pair .given .0 .0)
-unfolding pairOf
-found c = sym (c .before .before .find-pair .ensures) ∙ ap ofFoundPair (c .pair .given .1)
-
-is-radix-requires : tie.Need-is-radix-requires
-is-radix-requires c κs = search needs
-
--- whether 2 refuses
-radix : (c : tie.After-is-radix) → not (isRadix (c .before .before .before .before .before .args .format .«exponent_radix»)) ≡ not (c .is-radix .result)
-radix c = ap not (sym (c .is-radix .ensures))
-
-returns-2 : tie.Need-returns-2
-unfolding readingFormat
-returns-2 c = rw (found (c .before .before .before), radix (c .before) ∙ c .if1 .taken)
-
-bad-bytes-requires : tie.Need-bad-bytes-requires
-bad-bytes-requires c κs = search needs
-
-returns-3 : tie.Need-returns-3
-unfolding readingFormat
-returns-3 c =
-    let r = c .before .before in
-    rw (found (r .before .before .before), radix (r .before) ∙ r .if1 .left, sym (c .before .bad-bytes .ensures) ∙ c .if2 .taken)
-
-returns-4 : tie.Need-returns-4
-unfolding readingFormat
-returns-4 c =
-    let r = c .before .before in
-    rw (found (r .before .before .before), radix (r .before) ∙ r .if1 .left, sym (c .before .bad-bytes .ensures) ∙ c .if2 .left)
+returns c = let a = c .before .args in c .check-numbers .ensures ∙ reading-of (a .format) (a .options)
 
 pub check-reading-spec : {M : Type 1} → statement M
-check-reading-spec =
-    tie.close
-    (tie.spec
-    find-pair-requires
-    enum-known-pair
-    enum-told
-    returns
-    is-radix-requires
-    returns-2
-    bad-bytes-requires
-    returns-3
-    returns-4)
+check-reading-spec = tie.close (tie.spec check-numbers-requires returns)
