@@ -5,3 +5,4 @@ pub mod PutLaws
 pub mod PlanLaws
 pub mod TextLaws
 pub mod AnswerLaws
+pub mod OneDigit

@@ -32,7 +32,7 @@ pub(crate) fn put_zeros(buffer: &mut [u8], at: usize, count: usize) -> usize
 }
 
 // The digits of value in the radix.
-pub(crate) fn put_integer(buffer: &mut [u8], at: usize, value: u64, radix: u32) -> usize
+fn put_integer(buffer: &mut [u8], at: usize, value: u64, radix: u32) -> usize
     requires { ⌜ (isRadix radix ≡ true) × (at + length (numeral radix value) ≤ length (now buffer)) ⌝ }
     ensures { λ r. ⌜ Puts (now (buffer .entry)) at (numeral radix value) r (now (buffer .exit)) ⌝ }
 {
@@ -41,6 +41,18 @@ pub(crate) fn put_integer(buffer: &mut [u8], at: usize, value: u64, radix: u32) 
         Written::Length(count) => at + count,
         Written::Refused(_) => at,
     }
+}
+
+// The same where the value is often one digit, as an exponent is: one byte, and no call.
+pub(crate) fn put_number(buffer: &mut [u8], at: usize, value: u64, radix: u32) -> usize
+    requires { ⌜ (isRadix radix ≡ true) × (at + length (numeral radix value) ≤ length (now buffer)) ⌝ }
+    ensures { λ r. ⌜ Puts (now (buffer .entry)) at (numeral radix value) r (now (buffer .exit)) ⌝ }
+{
+    if value < radix as u64 {
+        let byte = lexical_write_integer::digit_byte(value);
+        return put_byte(buffer, at, byte);
+    }
+    put_integer(buffer, at, value, radix)
 }
 
 // The last count digits of value, of so many bits each.
@@ -64,4 +76,23 @@ pub(crate) fn put_digits(
         Written::Length(count) => at + count,
         Written::Refused(_) => at,
     }
+}
+
+// The same where often one digit is asked for, as in front of the point: one byte, and no loop.
+pub(crate) fn put_leading(
+    buffer: &mut [u8],
+    at: usize,
+    value: u64,
+    bits_per_digit: u32,
+    count: usize,
+) -> usize
+    requires { ⌜ (0 < «bits_per_digit») × («bits_per_digit» ≤ 5) × (at + count ≤ length (now buffer)) ⌝ }
+    ensures { λ r. ⌜ Puts (now (buffer .entry)) at (lastNumeral (2 ^ «bits_per_digit») count value) r (now (buffer .exit)) ⌝ }
+{
+    if count == 1 {
+        let mask = (1u64 << bits_per_digit) - 1;
+        let byte = lexical_write_integer::digit_byte(value & mask);
+        return put_byte(buffer, at, byte);
+    }
+    put_digits(buffer, at, value, bits_per_digit, count)
 }

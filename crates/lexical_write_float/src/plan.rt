@@ -9,6 +9,7 @@ ghost use Rattle.lexical_util.specs.Digit.{isRadix};
 ghost use Rattle.lexical_write_float.specs.Code.{Puts, Counted, digitsOf, Small, fractionText, planText, tailText};
 use crate::pieces::put_byte;
 use crate::pieces::put_digits;
+use crate::pieces::put_leading;
 use crate::pieces::put_zeros;
 use crate::shared::exponent_length;
 use crate::shared::write_exponent;
@@ -73,7 +74,7 @@ pub(crate) fn put_plan(buffer: &mut [u8], digits: Digits, plan: Plan, point: u8)
     // The other digits are shifted out.
     let shift = digits.bits_per_digit as usize * (digits.count - plan.leading);
     let leading = digits.value >> shift;
-    let filled = put_digits(buffer, 0, leading, digits.bits_per_digit, plan.leading);
+    let filled = put_leading(buffer, 0, leading, digits.bits_per_digit, plan.leading);
     let fraction = put_zeros(buffer, filled, plan.filled);
     put_fraction(buffer, fraction, digits, plan, point)
 }

@@ -9,7 +9,7 @@ ghost use Rattle.lexical_format.specs.declared.options.Options.{Options};
 ghost use Rattle.lexical_format.specs.Format.{lowBreak, highBreak};
 ghost use Rattle.lexical_write_float.specs.Code.{Puts, signText, tailText};
 use crate::pieces::put_byte;
-use crate::pieces::put_integer;
+use crate::pieces::put_number;
 use lexical_format::CheckedFormat;
 use lexical_format::NumberFormat;
 use lexical_text::Layout;
@@ -118,7 +118,7 @@ pub(crate) fn write_exponent(
         Layout::Scientific => {
             let sign = put_byte(buffer, at, mark);
             let magnitude = write_exponent_sign(buffer, sign, exponent.0, plus);
-            put_integer(buffer, magnitude, exponent.1, radix)
+            put_number(buffer, magnitude, exponent.1, radix)
         }
         Layout::Negative => at,
         Layout::Positive => at,

@@ -9,4 +9,5 @@ mod write;
 pub use count::digit_count;
 pub use count::digit_log;
 pub use mantissa::write_mantissa;
+pub use table::digit_byte;
 pub use write::write_integer;

@@ -1,6 +1,6 @@
 // Digits as bytes, and pairs of them. Document 01 is their meaning: the tables are in none of the Rust files that it lists.
 ghost use mathlib.Core.Path.{_≡_};
-ghost use Prim.Native.Nat.{_<_};
+ghost use Prim.Native.Nat.{_%_, _<_};
 ghost use lib.ListN.{getD};
 ghost use Rattle.lexical_util.specs.Digit.{digitByte};
 
@@ -65,4 +65,11 @@ pub(crate) fn digit_to_char(digit: u8) -> u8
     ensures { λ r. ⌜ r ≡ digitByte digit ⌝ }
 {
     if digit < 10 { 48 + digit } else { 55 + digit }
+}
+
+// The byte of the last digit that a number has in radix 32: of any number that is one digit, its byte.
+pub fn digit_byte(value: u64) -> u8
+    ensures { λ r. ⌜ r ≡ digitByte (value % 32) ⌝ }
+{
+    digit_to_char((value & 31) as u8)
 }

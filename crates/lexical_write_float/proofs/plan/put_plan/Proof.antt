@@ -37,12 +37,12 @@ mul-shift c = omega (arith, small (c .before .before .before .before))
 shr-leading : tie.Need-shr-leading
 shr-leading c = small (c .before .before .before .before .before)
 
-put-digits-requires : tie.Need-put-digits-requires
-put-digits-requires c κs = let s = c .before .before .before .before .before .before in (s .pre .0 .some-bits, s .pre .0 .few-bits, omega (arith, room s))
+put-leading-requires : tie.Need-put-leading-requires
+put-leading-requires c κs = let s = c .before .before .before .before .before .before in (s .pre .0 .some-bits, s .pre .0 .few-bits, omega (arith, room s))
 
 -- where they end
-digits-end : (d : tie.After-put-digits) → d .put-digits .result ≡ 0 + d .before .before .before .before .before .before .before .args .plan .leading
-digits-end d = d .put-digits .ensures .next-is ∙ ap (λ (n : ℕ). 0 + n) (length-last _ (d .before .before .before .before .before .before .before .args .plan .leading) _)
+digits-end : (d : tie.After-put-leading) → d .put-leading .result ≡ 0 + d .before .before .before .before .before .before .before .args .plan .leading
+digits-end d = d .put-leading .ensures .next-is ∙ ap (λ (n : ℕ). 0 + n) (length-last _ (d .before .before .before .before .before .before .before .args .plan .leading) _)
 
 put-zeros-requires : tie.Need-put-zeros-requires
 put-zeros-requires c κs =
@@ -69,7 +69,7 @@ returns c =
     let s = d .before .before .before .before .before .before .before in
     let D = s .args .digits in
     let P = s .pre .0 in
-    let leading = rw (front (D .«bits_per_digit») (D .value) (D .count) (s .args .plan .leading) (P .some-bits) (P .count-is) (s .pre .1 .leading-few)) at (d .put-digits .ensures) in
+    let leading = rw (front (D .«bits_per_digit») (D .value) (D .count) (s .args .plan .leading) (P .some-bits) (P .count-is) (s .pre .1 .leading-few)) at (d .put-leading .ensures) in
     puts-more _ _ _ zero-le leading (puts-more _ _ _ (omega (arith, room s, digits-end d)) (z .put-zeros .ensures) (f .put-fraction .ensures))
 
 pub put-plan-spec : {M : Type 1} → statement M
@@ -80,7 +80,7 @@ put-plan-spec =
     sub-shift
     mul-shift
     shr-leading
-    put-digits-requires
+    put-leading-requires
     put-zeros-requires
     put-fraction-requires
     same-length

@@ -25,8 +25,8 @@ put-byte-requires c κs = omega (arith, room (c .before))
 write-exponent-sign-requires : tie.Need-write-exponent-sign-requires
 write-exponent-sign-requires c κs = let p = c .before .before .before in omega (arith, room (p .before .before), p .put-byte .ensures .next-is)
 
-put-integer-requires : tie.Need-put-integer-requires
-put-integer-requires c κs =
+put-number-requires : tie.Need-put-number-requires
+put-number-requires c κs =
     let g = c .before .before .before in
     let p = g .before .before .before .before in
     let t = p .before .before in
@@ -49,7 +49,7 @@ returns c =
     let p = g .before .before .before .before in
     let t = p .before .before in
     rw (t .enum-told .given .1)
-    (puts-more _ _ _ (omega (arith, room t)) (puts-more _ _ _ (omega (arith, room t)) (p .put-byte .ensures) (g .write-exponent-sign .ensures)) (i .put-integer .ensures))
+    (puts-more _ _ _ (omega (arith, room t)) (puts-more _ _ _ (omega (arith, room t)) (p .put-byte .ensures) (g .write-exponent-sign .ensures)) (i .put-number .ensures))
 
 returns-2 : tie.Need-returns-2
 returns-2 c = rw (c .enum-told2 .given .1) (puts-none _ _)
@@ -64,7 +64,7 @@ write-exponent-spec =
     enum-told
     put-byte-requires
     write-exponent-sign-requires
-    put-integer-requires
+    put-number-requires
     enum-told-2
     enum-told-3
     same-length
