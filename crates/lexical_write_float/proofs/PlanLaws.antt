@@ -2,17 +2,22 @@
 use Prim.Native.Nat.{ℕ, suc, _+_, _-_, _≤_, _<_, max}
 use mathlib.Core.Path.{_≡_, refl, _∙_}
 use mathlib.Core.Bool.{Bool, true, false, not, _&&_}
-use mathlib.Core.List.{List, []}
+use mathlib.Core.List.{List, [], _++_}
 use native.Mathlib.Omega.{arith}
 use borrow.Author.Tests.{lt-ltb, le-ltb}
 use lib.IntN.{ℤ, natAbs}
 use lib.ListN.{length, drop, length-append, length-replicate, length-drop}
 use lib.Seq.{length-take-le, take-all, drop-length}
+use Rattle.lexical_util.specs.Digit.{isRadix}
 use Rattle.lexical_write_float.specs.declared.plan.Plan.{Plan}
+use Rattle.lexical_text.specs.declared.layout.Layout.{Layout}
+use Rattle.lexical_text.specs.declared.layout.Layout.the-variants.{Scientific, Negative, Positive}
+use Rattle.lexical_text.proofs.LengthLaws.{few-digits}
 use Rattle.lexical_format.specs.declared.format.NumberFormat.{NumberFormat}
 use Rattle.lexical_format.specs.declared.options.Options.{Options}
 use Rattle.lexical_text.specs.Text.{point, least, trim, scientific, negative, positive}
-use Rattle.lexical_write_float.specs.Code.{fractionText, planText, IsPlan}
+use Rattle.lexical_write_float.specs.Code.{signText, fractionText, planText, tailText, IsPlan}
+use Rattle.lexical_write_float.proofs.PowerLaws.{tail-length}
 
 module _ (point : ℕ) (P : Plan) (D : List ℕ) where
   pub fraction-length : P .point ≡ true → length (fractionText point P D) ≡ 1 + P .gap + (length D - P .leading) + P .padding
@@ -26,6 +31,32 @@ module _ (point : ℕ) (P : Plan) (D : List ℕ) where
   pub plan-length : P .leading ≤ length D → length (planText point P D) ≡ P .leading + P .filled + length (fractionText point P D)
   unfolding planText
   plan-length h = simp (length-append, length-replicate, length-take-le (P .leading) D h) (omega arith)
+
+  -- with or without the point
+  plan-few : P .leading ≤ length D → length (planText point P D) ≤ P .filled + P .gap + P .padding + 1 + length D
+  plan-few h = go (P .point) refl
+    where
+      go : (t : Bool) → P .point ≡ t → length (planText point P D) ≤ P .filled + P .gap + P .padding + 1 + length D
+      go true e = omega (arith, plan-length h, fraction-length e)
+      go false e = omega (arith, plan-length h, no-fraction e)
+
+sign-few : (negative plus : Bool) → length (signText negative plus) ≤ 1
+sign-few true plus = omega arith
+sign-few false true = omega arith
+sign-few false false = omega arith
+
+tail-few : (l : Layout) (mark : ℕ) (negative plus : Bool) (radix n : ℕ) → isRadix radix ≡ true → n < 8192 → length (tailText l mark negative plus radix n) ≤ 20
+tail-few Scientific mark negative plus radix n R h =
+    omega (arith, tail-length Scientific mark negative plus radix n refl, sign-few negative plus, few-digits radix n R h)
+tail-few Negative mark negative plus radix n R h = omega arith
+tail-few Positive mark negative plus radix n R h = omega arith
+
+-- a text with its exponent, by the zeros of its plan
+pub text-few : (point : ℕ) (P : Plan) (D : List ℕ) (l : Layout) (mark : ℕ) (negative plus : Bool) (radix n : ℕ)
+    → P .leading ≤ length D → length D ≤ 64 → isRadix radix ≡ true → n < 8192
+    → length (planText point P D ++ tailText l mark negative plus radix n) ≤ P .filled + P .gap + P .padding + 85
+text-few point P D l mark negative plus radix n h few R small =
+    omega (arith, length-append (planText point P D) (tailText l mark negative plus radix n), plan-few point P D h, tail-few l mark negative plus radix n R small)
 
 -- ---- the plan of each layout
 drop-whole : (n : ℕ) (D : List ℕ) → length D ≡ n → drop n D ≡ []

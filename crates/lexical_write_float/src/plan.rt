@@ -3,6 +3,7 @@ ghost use mathlib.Core.Path.{_≡_};
 ghost use mathlib.Core.Bool.{true};
 ghost use mathlib.Core.List.{List, _++_};
 ghost use Prim.Native.Nat.{ℕ, _+_, _≤_, _<_};
+ghost use lib.Dec.{leb};
 ghost use lib.ListN.{length};
 ghost use Rattle.lexical_util.specs.Answer.{done, held};
 ghost use Rattle.lexical_util.specs.Digit.{isRadix};
@@ -79,6 +80,41 @@ pub(crate) fn put_plan(buffer: &mut [u8], digits: Digits, plan: Plan, point: u8)
     put_fraction(buffer, fraction, digits, plan, point)
 }
 
+// The length of a planned text and of the exponent, where the layout has one.
+fn text_length(
+    count: usize,
+    plan: Plan,
+    layout: Layout,
+    exponent: BaseExponent,
+    plus: bool,
+    radix: u32,
+) -> usize
+    requires { ⌜ (count ≤ 64) × Small count plan × (isRadix radix ≡ true) × (exponent .1 < 8192) ⌝ }
+    ensures { λ r. ⌜ ((D : List ℕ) (point mark : ℕ) → length D ≡ count → r ≡ length (planText point plan D ++ tailText layout mark (exponent .0) plus radix (exponent .1))) ⌝ }
+{
+    let tail = exponent_length(layout, exponent, plus, radix);
+    plan_length(count, plan) + tail
+}
+
+// Whether a text has room. Most buffers are longer than any text with so many zeros, since D, the point and the exponent come to at most 85 bytes: for these nothing is measured.
+fn has_room(
+    room: usize,
+    count: usize,
+    plan: Plan,
+    layout: Layout,
+    exponent: BaseExponent,
+    plus: bool,
+    radix: u32,
+) -> bool
+    requires { ⌜ (count ≤ 64) × Small count plan × (isRadix radix ≡ true) × (exponent .1 < 8192) ⌝ }
+    ensures { λ r. ⌜ ((D : List ℕ) (point mark : ℕ) → length D ≡ count → r ≡ leb (length (planText point plan D ++ tailText layout mark (exponent .0) plus radix (exponent .1))) room) ⌝ }
+{
+    if plan.filled + plan.gap + plan.padding + 85 <= room {
+        return true;
+    }
+    text_length(count, plan, layout, exponent, plus, radix) <= room
+}
+
 // A planned text, and the exponent where the layout has one, written if there is room for it. The answer is its length either way.
 pub(crate) fn write_plan(
     digits: Digits,
@@ -95,10 +131,10 @@ pub(crate) fn write_plan(
 {
     let plus = format.required_exponent_sign;
     let radix = format.exponent_radix;
-    let tail = exponent_length(layout, exponent, plus, radix);
-    let length = plan_length(digits.count, plan) + tail;
-    if length > buffer.len() {
-        return length;
+    let count = digits.count;
+    let room = buffer.len();
+    if !has_room(room, count, plan, layout, exponent, plus, radix) {
+        return text_length(count, plan, layout, exponent, plus, radix);
     }
     let mark = put_plan(buffer, digits, plan, options.decimal_point);
     write_exponent(
@@ -109,6 +145,5 @@ pub(crate) fn write_plan(
         exponent,
         plus,
         radix,
-    );
-    length
+    )
 }

@@ -1,0 +1,35 @@
+-- `lexical_write_float::plan::has_room` meets its contract: no text is longer than its zeros and 85 bytes, and otherwise it is measured. Assumes nothing.
+use Prim.Native.Nat.{ℕ, _≤_}
+use mathlib.Core.Path.{sym, ap}
+use native.Mathlib.Omega.{arith}
+use borrow.Author.Needs.{needs}
+use borrow.Author.Tests.{le-leb}
+use lib.Dec.{leb}
+use Rattle.lexical_write_float.proofs.PlanLaws.{text-few}
+use Rattle.lexical_write_float.proofs.plan.has_room.Statement.{statement}
+use Rattle.lexical_write_float.proofs.plan.has_room.Tie as tie
+
+add-if1 : tie.Need-add-if1
+add-if1 c = search needs
+
+add-if1-2 : tie.Need-add-if1-2
+add-if1-2 c = search needs
+
+add-if1-3 : tie.Need-add-if1-3
+add-if1-3 c = search needs
+
+returns : tie.Need-returns
+returns c D point mark e =
+    let s = c .before .before .before in
+    let a = s .args in
+    let few = text-few point (a .plan) D (a .layout) mark (a .exponent .0) (a .plus) (a .radix) (a .exponent .1) (omega (arith, s .pre .1 .leading-few, e)) (omega (arith, s .pre .0, e)) (s .pre .2) (s .pre .3) in
+    sym (le-leb _ (a .room) (omega (arith, few, c .if1 .taken)))
+
+text-length-requires : tie.Need-text-length-requires
+text-length-requires c κs = c .before .before .before .pre
+
+returns-2 : tie.Need-returns-2
+returns-2 c D point mark e = ap (λ (n : ℕ). leb n (c .before .before .before .before .args .room)) (c .text-length .ensures D point mark e)
+
+pub has-room-spec : {M : Type 1} → statement M
+has-room-spec = tie.close (tie.spec add-if1 add-if1-2 add-if1-3 returns text-length-requires returns-2)
