@@ -8,6 +8,7 @@ use lib.IntN.{ℤ, natAbs}
 use lib.ListN.{length, take, drop}
 use lib.Ieee.{Format, fin, fits}
 use Rattle.lexical_util.specs.Answer.{Answer, done, refused, andThen}
+use Rattle.lexical_util.specs.Exponent.{place}
 use Rattle.lexical_util.specs.declared.exponent.Magnitude.{Magnitude}
 use Rattle.lexical_float.specs.declared.num.Parts.{Parts}
 use Rattle.lexical_float.specs.declared.num.Parts.the-variants as parts
@@ -21,7 +22,8 @@ use Rattle.lexical_text.specs.declared.layout.Layout.{Layout}
 use Rattle.lexical_text.specs.declared.layout.Layout.the-variants.{Scientific, Negative, Positive}
 use Rattle.lexical_write_float.specs.declared.plan.Digits.{Digits}
 use Rattle.lexical_write_float.specs.declared.plan.Plan.{Plan}
-use Rattle.lexical_text.specs.Value.{Value, normal}
+use Rattle.lexical_write_float.specs.declared.write.Placed.{Placed}
+use Rattle.lexical_text.specs.Value.{Value, normal, exactDigits}
 use Rattle.lexical_text.specs.Range.{Between}
 use Rattle.lexical_text.specs.Text.{zeros, scientific, negative, positive}
 use Rattle.lexical_text.specs.Write.{limitedText}
@@ -61,6 +63,12 @@ pub record Counted (D : Digits) : Type 0 where
   pub count-is : D .count ≡ length (digitsOf D)
   pub few : D .count ≤ 64
   pub small : D .value < 2 ^ 59
+
+-- p of s, and D of a value
+pub record IsPlaced (m : ℕ) (e s : ℤ) (b : ℕ) (r : Placed) : Type 0 where
+  pub place-is : r .p .0 ≡ place b s
+  pub digits-are : digitsOf (r .digits) ≡ exactDigits b m e
+  pub counted : Counted (r .digits)
 
 -- what stands from the point on
 unfoldable pub fractionText : ℕ → Plan → List ℕ → List ℕ

@@ -10,7 +10,7 @@ ghost use Rattle.lexical_format.specs.declared.options.Options.{Options};
 ghost use Rattle.lexical_text.specs.Value.{exactDigits};
 ghost use Rattle.lexical_text.specs.Text.{point, least, digitsSoFar, text};
 ghost use Rattle.lexical_text.specs.Range.{Ranged};
-ghost use Rattle.lexical_write_float.specs.Code.{FloatParts, Passed, rowOf, Counted, digitsOf, IsPlan, bodyText, magnitudeText, partsText, askedByParts, OfFloat};
+ghost use Rattle.lexical_write_float.specs.Code.{FloatParts, Passed, rowOf, Counted, digitsOf, IsPlaced, IsPlan, bodyText, magnitudeText, partsText, askedByParts, OfFloat};
 ghost use Rattle.lexical_text.specs.Write.{writeText, NoLonger, NeverRefused};
 use crate::binary::calculate_shl;
 use crate::binary::normalized;
@@ -30,6 +30,7 @@ use lexical_format::NumberFormat;
 use lexical_format::Options;
 use lexical_format::WritingCheck;
 use lexical_text::Layout;
+use lexical_util::BitExponent;
 use lexical_util::DigitExponent;
 use lexical_util::Magnitude;
 use lexical_util::Refusal;
@@ -50,6 +51,35 @@ fn digits_of(value: Magnitude, bits_per_digit: u32) -> Digits
         value: shifted,
         bits_per_digit,
         count: lexical_write_integer::digit_log(shifted, bits_per_digit),
+    }
+}
+
+// p, and D.
+struct Placed {
+    p: DigitExponent,
+    digits: Digits,
+}
+
+fn place_digits(value: Magnitude, s: BitExponent, bits_per_digit: u32) -> Placed
+    requires { ⌜ (0 < «bits_per_digit») × («bits_per_digit» ≤ 5) × (value .mantissa < 2 ^ 54) ⌝ }
+    ensures { λ r. ⌜ IsPlaced (value .mantissa) (value .exponent) (s .0) «bits_per_digit» r ⌝ }
+{
+    let p = digit_exponent(s, bits_per_digit);
+    let digits = digits_of(value, bits_per_digit);
+    Placed { p, digits }
+}
+
+// The same by five constants: p, the shift and the count of digits each divide by the bits of a digit, and the compiler then chooses once for the three.
+fn place_by_bits(value: Magnitude, s: BitExponent, bits_per_digit: u32) -> Placed
+    requires { ⌜ (0 < «bits_per_digit») × («bits_per_digit» ≤ 5) × (value .mantissa < 2 ^ 54) ⌝ }
+    ensures { λ r. ⌜ IsPlaced (value .mantissa) (value .exponent) (s .0) «bits_per_digit» r ⌝ }
+{
+    match bits_per_digit {
+        1 => place_digits(value, s, 1),
+        2 => place_digits(value, s, 2),
+        3 => place_digits(value, s, 3),
+        4 => place_digits(value, s, 4),
+        _ => place_digits(value, s, 5),
     }
 }
 
@@ -96,8 +126,9 @@ fn write_value(
     ensures { λ _. ⌜ now (buffer .exit) ≡ held (done (text format options (rowOf checked) (value .mantissa) (value .exponent))) (now (buffer .entry)) ⌝ }
 {
     let s = sci_exp(value);
-    let p = digit_exponent(s, checked.b);
-    let digits = digits_of(value, checked.b);
+    let placed = place_by_bits(value, s, checked.b);
+    let p = placed.p;
+    let digits = placed.digits;
     let so_far = digits_so_far(value.mantissa, digits.count);
     let layout = choose_layout(format, checked, s);
     let plan = plan_of(layout, digits.count, p, so_far, format, options);
