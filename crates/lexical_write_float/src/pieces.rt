@@ -43,7 +43,18 @@ fn put_integer(buffer: &mut [u8], at: usize, value: u64, radix: u32) -> usize
     }
 }
 
-// The same where the value is often one digit, as an exponent is: one byte, and no call.
+// A value of two decimal digits.
+fn put_two_digits(buffer: &mut [u8], at: usize, value: u64) -> usize
+    requires { ⌜ (10 ≤ value) × (value < 100) × (at + length (numeral 10 value) ≤ length (now buffer)) ⌝ }
+    ensures { λ r. ⌜ Puts (now (buffer .entry)) at (numeral 10 value) r (now (buffer .exit)) ⌝ }
+{
+    let first = lexical_write_integer::digit_byte(value / 10);
+    let last = lexical_write_integer::digit_byte(value % 10);
+    let next = put_byte(buffer, at, first);
+    put_byte(buffer, next, last)
+}
+
+// The digits of value where it is often one digit, or two decimal ones, as an exponent is: bytes, and no call.
 pub(crate) fn put_number(buffer: &mut [u8], at: usize, value: u64, radix: u32) -> usize
     requires { ⌜ (isRadix radix ≡ true) × (at + length (numeral radix value) ≤ length (now buffer)) ⌝ }
     ensures { λ r. ⌜ Puts (now (buffer .entry)) at (numeral radix value) r (now (buffer .exit)) ⌝ }
@@ -51,6 +62,11 @@ pub(crate) fn put_number(buffer: &mut [u8], at: usize, value: u64, radix: u32) -
     if value < radix as u64 {
         let byte = lexical_write_integer::digit_byte(value);
         return put_byte(buffer, at, byte);
+    }
+    if radix == 10 {
+        if value < 100 {
+            return put_two_digits(buffer, at, value);
+        }
     }
     put_integer(buffer, at, value, radix)
 }

@@ -1,4 +1,4 @@
--- `lexical_write_float::pieces::put_number` meets its contract: a number below the radix is one digit. Assumes nothing.
+-- `lexical_write_float::pieces::put_number` meets its contract: a number below the radix is one digit, and a decimal one below 100 two. Assumes nothing.
 use Prim.Native.Nat.{ℕ, _≤_}
 use mathlib.Core.Path.{_≡_, ap}
 use mathlib.Core.List.{List, [], _∷_}
@@ -29,14 +29,28 @@ same-length c = search needs
 returns : tie.Need-returns
 returns c = let p = c .before .before in rw (is (p .before .before)) at (p .put-byte .ensures)
 
-put-integer-requires : tie.Need-put-integer-requires
-put-integer-requires c κs = c .before .before .before .pre
+put-two-digits-requires : tie.Need-put-two-digits-requires
+put-two-digits-requires c κs =
+    let t = c .before in
+    let r = t .before .if2 .taken in
+    let e = t .before .before in
+    let s = e .before .before in
+    (omega (arith, e .if1 .left, r), t .if3 .taken, rw r at (s .pre .1))
 
 same-length-2 : tie.Need-same-length-2
 same-length-2 c = search needs
 
 returns-2 : tie.Need-returns-2
-returns-2 c = c .before .before .put-integer .ensures
+returns-2 c = let q = c .before .before in rw (q .before .before .before .if2 .taken) (q .put-two-digits .ensures)
+
+put-integer-requires : tie.Need-put-integer-requires
+put-integer-requires c κs = c .before .before .before .before .pre
+
+same-length-3 : tie.Need-same-length-3
+same-length-3 c = search needs
+
+returns-3 : tie.Need-returns-3
+returns-3 c = c .before .before .put-integer .ensures
 
 pub put-number-spec : {M : Type 1} → statement M
 put-number-spec =
@@ -46,6 +60,9 @@ put-number-spec =
     put-byte-requires
     same-length
     returns
-    put-integer-requires
+    put-two-digits-requires
     same-length-2
-    returns-2)
+    returns-2
+    put-integer-requires
+    same-length-3
+    returns-3)
