@@ -4,7 +4,9 @@ use mathlib.Core.Path.{_≡_, sym, _∙_}
 use mathlib.Core.List.{List, _∷_, _++_, append-assoc}
 use native.Mathlib.Nat.{lt-suc-self, one-mul, mod-eq-of-lt, mod-lt, lt-of-lt-of-le}
 use native.Mathlib.Omega.{arith}
-use lib.Bits.{bitAnd, and-mask}
+use mir.Syntax.{w8}
+use mir.Val.{Fits}
+use lib.Bits.{bitAnd, and-le-r, and-mask}
 use lib.ListN.{length, drop, set, length-set}
 use lib.Pow.{pow-lt, pow-pos, pow-mono}
 use lib.Seq.{drop-cons, getD-set-same, drop-set-lt}
@@ -44,3 +46,10 @@ radix-le b h = pow-mono {i = b} {j = 5} h
 
 pub masked-lt : (b v m : ℕ) → b ≤ 5 → m + 1 ≡ 2 ^ b → bitAnd v m < 32
 masked-lt b v m h e = rw (masked b v m e) (lt-of-lt-of-le (mod-lt v {m = 2 ^ b} (pow-pos b)) (radix-le b h))
+
+-- whatever a mask below 32 keeps is a digit, and fits a byte
+pub kept-lt : (v m : ℕ) → m ≤ 31 → bitAnd v m < 32
+kept-lt v m h = omega (arith, and-le-r v m)
+
+pub kept-fits : (v m : ℕ) → m ≤ 31 → Fits w8 (bitAnd v m)
+kept-fits v m h = omega (arith, and-le-r v m)
