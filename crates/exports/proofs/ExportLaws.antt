@@ -1,15 +1,14 @@
 -- What the call beneath answered and left is what the exported call answers and leaves, for any such call. Assumes nothing.
 use Prim.Native.Nat.{ℕ}
-use mathlib.Core.Path.{_≡_, ap, _∙_, refl}
+use mathlib.Core.Path.{_≡_, ap, _∙_}
 use mathlib.Core.List.{List}
-use lib.Ieee.{binary32, binary64, ofBits}
 use Rattle.lexical_util.specs.Answer as called
 use Rattle.lexical_format.specs.declared.format.NumberFormat.{NumberFormat}
 use Rattle.lexical_format.specs.declared.options.Options.{Options}
 use Rattle.lexical_rewriting.specs.declared.text_format.TextFormat.{TextFormat}
-use Rattle.exports.specs.declared.answer.Answer.{Answer}
-use Rattle.exports.specs.declared.format.Format.{Format}
-use Rattle.exports.specs.Exports.{formatOf, optionsOf, textFormatOf, answerOf, zeroFloat}
+use Rattle.export_structs.specs.declared.answer.Answer.{Answer}
+use Rattle.export_structs.specs.declared.format.Format.{Format}
+use Rattle.export_structs.specs.Structs.{formatOf, optionsOf, textFormatOf, answerOf}
 
 -- an answer and the lent bytes, as a request for a text has them
 abbrev pub Answered : called.Answer (List ℕ) → List ℕ → Answer → List ℕ → Type 0
@@ -52,8 +51,3 @@ pub rewriting-handed-on : {A R : Type 0} {answer : A} {r : R} {left : List ℕ} 
     → r ≡ of answer
     → (r ≡ of (answers (textFormatOf from) (textFormatOf to))) × (left ≡ leaves (textFormatOf from) (textFormatOf to))
 rewriting-handed-on of answers leaves from to is-from is-to is holds given = (cc, cc)
-
--- the code's 0.0, at each width
-pub zero-floats : (ofBits binary64 0 ≡ zeroFloat) × (ofBits binary32 0 ≡ zeroFloat)
-unfolding ofBits
-zero-floats = (refl, refl)

@@ -5,16 +5,16 @@ ghost use Rattle.lexical_util.specs.Answer.{written, held};
 ghost use Rattle.lexical_digits.specs.Write.{digitsText};
 ghost use Rattle.lexical_text.specs.Write.{writeText};
 ghost use Rattle.lexical_reading.specs.Read.{readFloat};
-ghost use Rattle.exports.specs.Exports.{formatOf, optionsOf, answerOf, answerF64Of, answerF32Of};
-use crate::answer::Answer;
-use crate::answer::AnswerF32;
-use crate::answer::AnswerF64;
-use crate::answer::answer_f32_of;
-use crate::answer::answer_f64_of;
-use crate::answer::answer_of;
-use crate::format::Format;
-use crate::format::format_of;
-use crate::format::options_of;
+ghost use Rattle.export_structs.specs.Structs.{formatOf, optionsOf, answerOf, answerF64Of, answerF32Of};
+use export_structs::Answer;
+use export_structs::AnswerF32;
+use export_structs::AnswerF64;
+use export_structs::Format;
+use export_structs::answer_f32_of;
+use export_structs::answer_f64_of;
+use export_structs::answer_of;
+use export_structs::format_of;
+use export_structs::options_of;
 
 #[no_mangle]
 pub extern "C" fn lexical_write_integer(value: u64, radix: u32, buffer: &mut [u8]) -> Answer

@@ -3,12 +3,12 @@ ghost use mathlib.Core.Path.{_≡_};
 ghost use lib.ListN.{length};
 ghost use Rattle.lexical_util.specs.Answer.{written, held};
 ghost use Rattle.outage.specs.Calls.{tableSheet, sheetTable};
-ghost use Rattle.exports.specs.Exports.{formatOf, optionsOf, answerOf};
-use crate::answer::Answer;
-use crate::answer::answer_of;
-use crate::format::Format;
-use crate::format::format_of;
-use crate::format::options_of;
+ghost use Rattle.export_structs.specs.Structs.{formatOf, optionsOf, answerOf};
+use export_structs::Answer;
+use export_structs::Format;
+use export_structs::answer_of;
+use export_structs::format_of;
+use export_structs::options_of;
 
 #[no_mangle]
 pub extern "C" fn outage_table_to_sheet(table: &[u8], format: Format, sheet: &mut [u8]) -> Answer

@@ -4,12 +4,12 @@ ghost use lib.Ieee.{binary32, binary64};
 ghost use Rattle.lexical_rewriting.specs.Rewrite.{readIn, rewriteAnswer, rewriteBytes};
 ghost use Rattle.lexical_rewriting.specs.Record.{formatsOf};
 ghost use Rattle.lexical_rewriting.specs.Chain.{atStation, chainOf};
-ghost use Rattle.exports.specs.Exports.{textFormatOf, stationAnswerOf};
-use crate::answer::StationAnswer;
-use crate::answer::chained_of;
-use crate::answer::rewritten_of;
-use crate::format::Format;
-use crate::format::text_format_of;
+ghost use Rattle.export_structs.specs.Structs.{textFormatOf, stationAnswerOf};
+use export_structs::Format;
+use export_structs::StationAnswer;
+use export_structs::chained_of;
+use export_structs::rewritten_of;
+use export_structs::text_format_of;
 
 #[no_mangle]
 pub extern "C" fn lexical_rewrite_f64(

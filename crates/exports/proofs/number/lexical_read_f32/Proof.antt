@@ -3,7 +3,7 @@ use borrow.Author.Needs.{needs}
 use denote.Ref.{now}
 use lib.Ieee.{binary32}
 use Rattle.lexical_reading.specs.Read.{readFloat}
-use Rattle.exports.specs.Exports.{answerF32Of}
+use Rattle.export_structs.specs.Structs.{answerF32Of}
 use Rattle.exports.proofs.ExportLaws.{read-handed-on}
 use Rattle.exports.proofs.number.lexical_read_f32.Statement.{statement}
 use Rattle.exports.proofs.number.lexical_read_f32.Tie as tie

@@ -3,7 +3,7 @@ use borrow.Author.Needs.{needs}
 use denote.Ref.{now}
 use lib.Ieee.{binary64}
 use Rattle.lexical_reading.specs.Read.{readFloat}
-use Rattle.exports.specs.Exports.{answerF64Of}
+use Rattle.export_structs.specs.Structs.{answerF64Of}
 use Rattle.exports.proofs.ExportLaws.{read-handed-on}
 use Rattle.exports.proofs.number.lexical_read_f64.Statement.{statement}
 use Rattle.exports.proofs.number.lexical_read_f64.Tie as tie

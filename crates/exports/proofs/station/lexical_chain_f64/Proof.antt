@@ -5,7 +5,7 @@ use lib.Ieee.{binary64}
 use Rattle.lexical_rewriting.specs.declared.text_format.TextFormat.{TextFormat}
 use Rattle.lexical_rewriting.specs.Record.{formatsOf}
 use Rattle.lexical_rewriting.specs.Chain.{Outcome, chainOf}
-use Rattle.exports.specs.Exports.{stationAnswerOf}
+use Rattle.export_structs.specs.Structs.{stationAnswerOf}
 use Rattle.exports.proofs.ExportLaws.{rewriting-handed-on}
 use Rattle.exports.proofs.station.lexical_chain_f64.Statement.{statement}
 use Rattle.exports.proofs.station.lexical_chain_f64.Tie as tie

@@ -4,7 +4,7 @@ use denote.Ref.{now}
 use lib.Ieee.{binary32}
 use Rattle.lexical_rewriting.specs.Rewrite.{readIn, rewriteAnswer, rewriteBytes}
 use Rattle.lexical_rewriting.specs.Chain.{atStation}
-use Rattle.exports.specs.Exports.{stationAnswerOf}
+use Rattle.export_structs.specs.Structs.{stationAnswerOf}
 use Rattle.exports.proofs.ExportLaws.{rewriting-handed-on}
 use Rattle.exports.proofs.station.lexical_rewrite_f32.Statement.{statement}
 use Rattle.exports.proofs.station.lexical_rewrite_f32.Tie as tie

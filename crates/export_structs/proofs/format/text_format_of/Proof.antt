@@ -1,7 +1,7 @@
--- `exports::text_format_of` meets its contract: number format and options together. Assumes nothing.
+-- `export_structs::text_format_of` meets its contract: number format and options together. Assumes nothing.
 use borrow.Author.Needs.{needs}
-use Rattle.exports.proofs.format.text_format_of.Statement.{statement}
-use Rattle.exports.proofs.format.text_format_of.Tie as tie
+use Rattle.export_structs.proofs.format.text_format_of.Statement.{statement}
+use Rattle.export_structs.proofs.format.text_format_of.Tie as tie
 
 options-of-requires : tie.Need-options-of-requires
 options-of-requires c κs = search needs

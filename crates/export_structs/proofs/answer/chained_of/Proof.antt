@@ -1,7 +1,7 @@
--- `exports::chained_of` meets its contract, by the variant of the answer. Assumes nothing.
+-- `export_structs::chained_of` meets its contract, by the variant of the answer. Assumes nothing.
 use borrow.Author.Needs.{needs}
-use Rattle.exports.proofs.answer.chained_of.Statement.{statement}
-use Rattle.exports.proofs.answer.chained_of.Tie as tie
+use Rattle.export_structs.proofs.answer.chained_of.Statement.{statement}
+use Rattle.export_structs.proofs.answer.chained_of.Tie as tie
 
 enum-known-chained : tie.Need-enum-known-chained
 enum-known-chained c = search needs

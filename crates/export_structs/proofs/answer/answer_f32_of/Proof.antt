@@ -1,8 +1,8 @@
--- `exports::answer_f32_of` meets its contract, by the variant of the answer. Assumes nothing.
+-- `export_structs::answer_f32_of` meets its contract, by the variant of the answer. Assumes nothing.
 use borrow.Author.Needs.{needs}
-use Rattle.exports.proofs.ExportLaws.{zero-floats}
-use Rattle.exports.proofs.answer.answer_f32_of.Statement.{statement}
-use Rattle.exports.proofs.answer.answer_f32_of.Tie as tie
+use Rattle.export_structs.proofs.StructLaws.{zero-floats}
+use Rattle.export_structs.proofs.answer.answer_f32_of.Statement.{statement}
+use Rattle.export_structs.proofs.answer.answer_f32_of.Tie as tie
 
 enum-known-read : tie.Need-enum-known-read
 enum-known-read c = search needs

@@ -4,7 +4,7 @@ ghost use Rattle.lexical_util.specs.Answer.{ofWritten};
 ghost use Rattle.lexical_rewriting.specs.Chain.{atStation};
 ghost use Rattle.lexical_read_float.specs.Answer.{ofReadF32, ofReadF64};
 ghost use Rattle.lexical_rewrite.specs.Answer.{ofRewritten, ofChained};
-ghost use Rattle.exports.specs.Exports.{answerOf, answerF64Of, answerF32Of, stationAnswerOf};
+ghost use Rattle.export_structs.specs.Structs.{answerOf, answerF64Of, answerF32Of, stationAnswerOf};
 use lexical_read_float::ReadF32;
 use lexical_read_float::ReadF64;
 use lexical_rewrite::Chained;
@@ -44,7 +44,7 @@ pub struct StationAnswer {
     pub value: usize,
 }
 
-pub(crate) fn answer_of(written: Written) -> Answer
+pub fn answer_of(written: Written) -> Answer
     ensures { λ r. ⌜ r ≡ answerOf (ofWritten written) ⌝ }
 {
     match written {
@@ -61,7 +61,7 @@ pub(crate) fn answer_of(written: Written) -> Answer
     }
 }
 
-pub(crate) fn answer_f64_of(read: ReadF64) -> AnswerF64
+pub fn answer_f64_of(read: ReadF64) -> AnswerF64
     ensures { λ r. ⌜ r ≡ answerF64Of (ofReadF64 read) ⌝ }
 {
     match read {
@@ -78,7 +78,7 @@ pub(crate) fn answer_f64_of(read: ReadF64) -> AnswerF64
     }
 }
 
-pub(crate) fn answer_f32_of(read: ReadF32) -> AnswerF32
+pub fn answer_f32_of(read: ReadF32) -> AnswerF32
     ensures { λ r. ⌜ r ≡ answerF32Of (ofReadF32 read) ⌝ }
 {
     match read {
@@ -95,7 +95,7 @@ pub(crate) fn answer_f32_of(read: ReadF32) -> AnswerF32
     }
 }
 
-pub(crate) fn chained_of(chained: Chained) -> StationAnswer
+pub fn chained_of(chained: Chained) -> StationAnswer
     ensures { λ r. ⌜ r ≡ stationAnswerOf (ofChained chained) ⌝ }
 {
     match chained {
@@ -123,7 +123,7 @@ pub(crate) fn chained_of(chained: Chained) -> StationAnswer
     }
 }
 
-pub(crate) fn rewritten_of(rewritten: Rewritten) -> StationAnswer
+pub fn rewritten_of(rewritten: Rewritten) -> StationAnswer
     ensures { λ r. ⌜ r ≡ stationAnswerOf (atStation 0 (ofRewritten rewritten)) ⌝ }
 {
     match rewritten {

@@ -1,7 +1,7 @@
--- `exports::rewritten_of` meets its contract, by the variant of the answer. Assumes nothing.
+-- `export_structs::rewritten_of` meets its contract, by the variant of the answer. Assumes nothing.
 use borrow.Author.Needs.{needs}
-use Rattle.exports.proofs.answer.rewritten_of.Statement.{statement}
-use Rattle.exports.proofs.answer.rewritten_of.Tie as tie
+use Rattle.export_structs.proofs.answer.rewritten_of.Statement.{statement}
+use Rattle.export_structs.proofs.answer.rewritten_of.Tie as tie
 
 enum-known-rewritten : tie.Need-enum-known-rewritten
 enum-known-rewritten c = search needs

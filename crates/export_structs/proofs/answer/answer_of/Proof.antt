@@ -1,7 +1,7 @@
--- `exports::answer_of` meets its contract, by the variant of the answer. Assumes nothing.
+-- `export_structs::answer_of` meets its contract, by the variant of the answer. Assumes nothing.
 use borrow.Author.Needs.{needs}
-use Rattle.exports.proofs.answer.answer_of.Statement.{statement}
-use Rattle.exports.proofs.answer.answer_of.Tie as tie
+use Rattle.export_structs.proofs.answer.answer_of.Statement.{statement}
+use Rattle.export_structs.proofs.answer.answer_of.Tie as tie
 
 enum-known-written : tie.Need-enum-known-written
 enum-known-written c = search needs

@@ -10,11 +10,11 @@ use Rattle.lexical_format.specs.declared.options.RoundMode.{RoundMode}
 use Rattle.lexical_format.specs.declared.options.RoundMode.the-variants.{Round, Truncate}
 use Rattle.lexical_rewriting.specs.declared.text_format.TextFormat.{TextFormat}
 use Rattle.lexical_rewriting.specs.Chain.{Chained, arrived, readingRefusedAt, writingRefusedAt}
-use Rattle.exports.specs.declared.answer.Answer.{Answer}
-use Rattle.exports.specs.declared.answer.AnswerF64.{AnswerF64}
-use Rattle.exports.specs.declared.answer.AnswerF32.{AnswerF32}
-use Rattle.exports.specs.declared.answer.StationAnswer.{StationAnswer}
-use Rattle.exports.specs.declared.format.Format.{Format}
+use Rattle.export_structs.specs.declared.answer.Answer.{Answer}
+use Rattle.export_structs.specs.declared.answer.AnswerF64.{AnswerF64}
+use Rattle.export_structs.specs.declared.answer.AnswerF32.{AnswerF32}
+use Rattle.export_structs.specs.declared.answer.StationAnswer.{StationAnswer}
+use Rattle.export_structs.specs.declared.format.Format.{Format}
 
 -- radix, base, exponent radix and flags
 abbrev pub formatOf : Format → NumberFormat

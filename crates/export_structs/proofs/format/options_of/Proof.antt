@@ -1,8 +1,8 @@
--- `exports::options_of` meets its contract: the breaks are handed on as they came. Assumes nothing.
+-- `export_structs::options_of` meets its contract: the breaks are handed on as they came. Assumes nothing.
 use Rattle.lexical_util.proofs.DifferenceLaws.{read-back}
 use borrow.Author.Needs.{needs}
-use Rattle.exports.proofs.format.options_of.Statement.{statement}
-use Rattle.exports.proofs.format.options_of.Tie as tie
+use Rattle.export_structs.proofs.format.options_of.Statement.{statement}
+use Rattle.export_structs.proofs.format.options_of.Tie as tie
 
 mode-of-requires : tie.Need-mode-of-requires
 mode-of-requires c κs = search needs

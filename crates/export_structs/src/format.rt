@@ -1,6 +1,6 @@
 // A format as it crosses, and what the calls beneath take for it.
 ghost use mathlib.Core.Path.{_≡_};
-ghost use Rattle.exports.specs.Exports.{formatOf, modeOf, optionsOf, textFormatOf};
+ghost use Rattle.export_structs.specs.Structs.{formatOf, modeOf, optionsOf, textFormatOf};
 use lexical_format::NumberFormat;
 use lexical_format::Options;
 use lexical_format::RoundMode;
@@ -26,7 +26,7 @@ pub struct Format {
     pub exponent_radix: u32,
 }
 
-pub(crate) fn format_of(format: Format) -> NumberFormat
+pub fn format_of(format: Format) -> NumberFormat
     ensures { λ r. ⌜ r ≡ formatOf format ⌝ }
 {
     NumberFormat {
@@ -50,7 +50,7 @@ fn mode_of(truncate: bool) -> RoundMode
     }
 }
 
-pub(crate) fn options_of(format: Format) -> Options
+pub fn options_of(format: Format) -> Options
     ensures { λ r. ⌜ r ≡ optionsOf format ⌝ }
 {
     Options {
@@ -65,7 +65,7 @@ pub(crate) fn options_of(format: Format) -> Options
     }
 }
 
-pub(crate) fn text_format_of(format: Format) -> TextFormat
+pub fn text_format_of(format: Format) -> TextFormat
     ensures { λ r. ⌜ r ≡ textFormatOf format ⌝ }
 {
     let options = options_of(format);
