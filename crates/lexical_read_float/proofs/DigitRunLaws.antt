@@ -4,7 +4,7 @@ use mathlib.Core.Path.{_≡_, refl, sym, ap, _∙_, subst}
 use mathlib.Core.Bool.{Bool, true, false, _&&_, and-true, and-assoc}
 use mathlib.Core.List.{List, [], _∷_}
 use mathlib.Core.Option.{Option, none, some}
-use native.Mathlib.Nat.{add-zero, zero-add, add-suc, suc-add, le-of-suc-le-suc, not-suc-le-zero, lt-of-not-le, mul-one, mul-le-mul-left}
+use native.Mathlib.Nat.{lt-of-not-le, mul-one, mul-le-mul-left}
 use native.Mathlib.Numerals.{add-one}
 use native.Mathlib.Decide.{decLe}
 use native.Mathlib.Omega.{arith}
@@ -15,6 +15,7 @@ use lib.ListN.{length, drop, getD, drop-of-length-le}
 use lib.Seq.{drop-cons}
 use Rattle.lexical_util.specs.Digit.{digitValue, digitIn, readOn}
 use Rattle.lexical_util.proofs.DigitLaws.{byte-value}
+use Rattle.lexical_util.proofs.TableLaws.{tab, tab-at}
 use Rattle.lexical_reading.specs.Parse.{more, run}
 use Rattle.lexical_read_float.specs.Digits.{IsValue, AreValues, digitsFrom, endFrom, allZero}
 
@@ -36,10 +37,6 @@ abbrev orNone : Option ℕ → ℕ
 orNone none = 255
 orNone (some d) = d
 
-abbrev entries : ℕ → ℕ → List ℕ
-entries i zero = []
-entries i (suc n) = orNone (digitValue i) ∷ entries (suc i) n
-
 entry-is : (x : ℕ) → IsValue (digitValue x) (orNone (digitValue x))
 entry-is x = go (digitValue x) (λ d e. byte-value x d e .1)
   where
@@ -47,13 +44,8 @@ entry-is x = go (digitValue x) (λ d e. byte-value x d e .1)
     go none h = record { digit = λ l. absurd (omega arith); no-digit = λ l. refl }
     go (some d) h = record { digit = λ l. refl; no-digit = λ l. absurd (omega (arith, h d refl)) }
 
-follows : (n i k : ℕ) → k < n → IsValue (digitValue (i + k)) (getD (entries i n) k 0)
-follows zero i k h = absurd (not-suc-le-zero h)
-follows (suc n) i zero h = rw (add-zero i) (entry-is i)
-follows (suc n) i (suc k) h = rw (add-suc i k ∙ sym (suc-add i k)) (follows n (suc i) k (le-of-suc-le-suc h))
-
-pub values-follow : AreValues (entries 0 256)
-values-follow = record { at = λ x h. subst (λ (y : ℕ). IsValue (digitValue y) (getD (entries 0 256) x 0)) (zero-add x) (follows 256 0 x h) }
+pub values-follow : AreValues (tab (λ x. orNone (digitValue x)) 0 256)
+values-follow = record { at = λ x h. subst (IsValue (digitValue x)) (sym (tab-at (λ y. orNone (digitValue y)) 256 x h)) (entry-is x) }
 
 pub cons-nil : (d : ℕ) (ds : List ℕ) → d ∷ ds ≡ [] → ⊥
 cons-nil d ds e = let z : _≡_ {A = ℕ} 0 1 = cc in omega arith

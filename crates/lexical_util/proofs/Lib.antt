@@ -5,3 +5,4 @@ pub mod DigitLaws
 pub mod ExponentLaws
 pub mod PowerLaws
 pub mod RadixLaws
+pub mod TableLaws

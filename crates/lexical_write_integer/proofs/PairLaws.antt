@@ -1,27 +1,13 @@
--- Digit pairs: the table's rule, and two digits of radix 32 stored by it. Assumes nothing.
-use Prim.Native.Nat.{ℕ, zero, suc, _+_, _-_, _*_, _/_, _%_, _≤_, _<_}
-use mathlib.Core.Path.{_≡_, sym, ap, _∙_}
-use mathlib.Core.List.{List, [], _∷_, _++_}
-use native.Mathlib.Nat.{add-zero, zero-add, add-suc, suc-add, le-of-suc-le-suc, not-suc-le-zero}
+-- Digit tables by their rules, and two digits of radix 32 stored by the pairs'. Assumes nothing.
+use Prim.Native.Nat.{ℕ, _+_, _-_, _*_, _/_, _%_, _≤_, _<_}
+use mathlib.Core.Path.{_≡_, _∙_}
+use mathlib.Core.List.{List, _++_}
 use native.Mathlib.Omega.{arith}
 use lib.ListN.{length, getD, drop, set, length-set}
 use Rattle.lexical_util.specs.Digit.{digitByte}
 use Rattle.lexical_digits.specs.Write.{lastNumeral}
 use Rattle.lexical_write_integer.specs.Table.{pairByte}
 use Rattle.lexical_write_integer.proofs.FillLaws.{back-step}
-
--- ---- a table computed from a rule has the rule's value at each entry
-abbrev pub tab : (ℕ → ℕ) → ℕ → ℕ → List ℕ
-tab f i zero = []
-tab f i (suc n) = f i ∷ tab f (suc i) n
-
-from : (f : ℕ → ℕ) (n i k : ℕ) → k < n → getD (tab f i n) k 0 ≡ f (i + k)
-from f zero i k h = absurd (not-suc-le-zero h)
-from f (suc n) i zero h = ap f (sym (add-zero i))
-from f (suc n) i (suc k) h = from f n (suc i) k (le-of-suc-le-suc h) ∙ ap f (suc-add i k ∙ sym (add-suc i k))
-
-pub tab-at : (f : ℕ → ℕ) (n k : ℕ) → k < n → getD (tab f 0 n) k 0 ≡ f k
-tab-at f n k h = from f n 0 k h ∙ ap f (zero-add k)
 
 -- the 32 digits follow theirs
 pub record Chars (table : List ℕ) : Type 0 where

@@ -7,7 +7,8 @@ use lib.ListN.{length, drop, length-set}
 use lib.Pow.{pow-pos}
 use Rattle.lexical_util.specs.Digit.{digitByte}
 use Rattle.lexical_digits.specs.Write.{lastNumeral}
-use Rattle.lexical_write_integer.proofs.PairLaws.{tab-at, Chars}
+use Rattle.lexical_util.proofs.TableLaws.{tab-at}
+use Rattle.lexical_write_integer.proofs.PairLaws.{Chars}
 use Rattle.lexical_write_integer.proofs.FillLaws.{back-step, back-end, shifted, masked, masked-lt}
 use Rattle.lexical_write_integer.proofs.radix.radix.Statement.{statement}
 use Rattle.lexical_write_integer.proofs.radix.radix.Tie as tie

@@ -9,7 +9,8 @@ use lib.ListN.{length, drop, length-set}
 use Rattle.lexical_util.specs.Digit.{digitByte}
 use Rattle.lexical_digits.specs.Write.{lastNumeral}
 use Rattle.lexical_write_integer.specs.Table.{pairByte}
-use Rattle.lexical_write_integer.proofs.PairLaws.{Pairs, tab-at, two-steps}
+use Rattle.lexical_util.proofs.TableLaws.{tab-at}
+use Rattle.lexical_write_integer.proofs.PairLaws.{Pairs, two-steps}
 use Rattle.lexical_write_integer.proofs.radix.radix_32_pairs.Statement.{statement}
 use Rattle.lexical_write_integer.proofs.radix.radix_32_pairs.Tie as tie
 
