@@ -40,13 +40,22 @@ fn main() {
     println!();
     println!("## A float written");
     println!();
+    println!(
+        "Wanted: half the Rust's time in 16/2, and no more than its time in any format. Decision 59 of \
+         [DECISIONS.md](DECISIONS.md) says where the time goes."
+    );
+    println!();
     short::writing();
     println!();
     println!("## A float's text read");
     println!();
+    println!("Wanted: a fifth of `strtod`'s time. Decision 102 says where the time goes.");
+    println!();
     short::reading();
     println!();
     println!("## Long texts read");
+    println!();
+    println!("Wanted: at most 2 ns a byte, and ten times the text in at most 11 times the time.");
     println!();
     long::reading();
     println!();
