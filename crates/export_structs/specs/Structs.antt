@@ -1,4 +1,4 @@
--- What the structs for C and Rust stand for. No enum crosses: the round mode is a flag, and an answer is three numbers. Definitions only.
+-- What the structs for C and Rust stand for. No enum crosses: the round mode is a flag, and an answer is a struct of numbers. Definitions only.
 use Prim.Native.Nat.{ℕ}
 use mathlib.Core.Bool.{Bool, true, false}
 use lib.IntN.{pos}

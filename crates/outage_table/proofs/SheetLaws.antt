@@ -33,7 +33,7 @@ use Rattle.outage_table.specs.Text.{found, rowOf, rowsOf, HasTexts, Admi
 use Rattle.outage_table.proofs.RowsLaws.{row-texts}
 
 module _ (F : NumberFormat) (o : Options) where
-  -- ---- what the first pass says
+  -- ---- what measuring the rows says
   module _ (r : Answer (List Window)) (a : Answer ℕ) (is : a ≡ andThen r (λ ws. done (length (rowsOf F o ws)))) where
     pub length-found : (m : ℕ) → a ≡ done m → (r ≡ done (found r)) × (m ≡ length (rowsOf F o (found r)))
     length-found m e = go r (sym is ∙ e)
