@@ -1,4 +1,5 @@
 // The digits of an integer in radix 2, 4, 8, 10, 16 or 32.
+mod binary;
 mod count;
 mod decimal;
 mod mantissa;

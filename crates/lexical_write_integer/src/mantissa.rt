@@ -2,7 +2,7 @@
 ghost use mathlib.Core.Path.{_≡_};
 ghost use Rattle.lexical_util.specs.Answer.{written, held, ofWritten};
 ghost use Rattle.lexical_digits.specs.Write.{mantissaText};
-use crate::radix::radix;
+use crate::binary::radix_by_bits;
 use lexical_util::Refusal;
 use lexical_util::Written;
 
@@ -23,6 +23,6 @@ pub fn write_mantissa(value: u64, bits_per_digit: u32, count: usize, buffer: &mu
             place: 0,
         });
     }
-    radix(value, bits_per_digit, count, buffer);
+    radix_by_bits(value, bits_per_digit, count, buffer);
     Written::Length(count)
 }

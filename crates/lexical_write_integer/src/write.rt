@@ -7,9 +7,9 @@ ghost use lib.ListN.{length, drop};
 ghost use Rattle.lexical_util.specs.Answer.{written, held, ofWritten};
 ghost use Rattle.lexical_util.specs.Digit.{isRadix};
 ghost use Rattle.lexical_digits.specs.Write.{lastNumeral, digitsText};
+use crate::binary::radix_by_bits;
 use crate::count::digit_count;
 use crate::decimal::decimal;
-use crate::radix::radix;
 use crate::radix::radix_32;
 use lexical_util::Refusal;
 use lexical_util::Written;
@@ -25,7 +25,7 @@ fn write_digits(value: u64, base: u32, count: usize, buffer: &mut [u8])
     } else if base == 32 {
         radix_32(value, count, buffer);
     } else {
-        radix(value, digit_bits(base), count, buffer);
+        radix_by_bits(value, digit_bits(base), count, buffer);
     }
 }
 

@@ -19,8 +19,8 @@ returns-2 c =
     let a = c .before .before .before .before .args in
     short (a .value) (a .bits-per-digit) (a .count) (now (a .buffer)) (omega arith) (omega (arith, ltb-false)) (omega arith)
 
-radix-requires : tie.Need-radix-requires
-radix-requires c κs = search needs
+radix-by-bits-requires : tie.Need-radix-by-bits-requires
+radix-by-bits-requires c κs = search needs
 
 same-length : tie.Need-same-length
 same-length c = search needs
@@ -29,7 +29,7 @@ returns-3 : tie.Need-returns-3
 returns-3 c =
     let a = c .before .before .before .before .before .before .before .before .args in
     let f = fits (a .value) (a .bits-per-digit) (a .count) (now (a .buffer)) (omega arith) (omega (arith, ltb-false)) (omega arith) in
-    (f .0, c .before .before .radix .ensures ∙ f .1)
+    (f .0, c .before .before .radix-by-bits .ensures ∙ f .1)
 
 pub write-mantissa-spec : {M : Type 1} → statement M
-write-mantissa-spec = tie.close (tie.spec returns returns-2 radix-requires same-length returns-3)
+write-mantissa-spec = tie.close (tie.spec returns returns-2 radix-by-bits-requires same-length returns-3)

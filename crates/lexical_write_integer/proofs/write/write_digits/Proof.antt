@@ -18,8 +18,8 @@ digit-bits-requires c κs = tt
 power : (c : tie.After-digit-bits) → Power (c .before .before .before .before .args .base) (c .digit-bits .result)
 power c = let s = c .before .before .before .before in rw (c .digit-bits .ensures) (power-of (s .args .base) (s .pre .0) (c .before .before .if1 .left))
 
-radix-requires : tie.Need-radix-requires
-radix-requires c κs = (power (c .before) .few-bits, omega arith)
+radix-by-bits-requires : tie.Need-radix-by-bits-requires
+radix-by-bits-requires c κs = (power (c .before) .few-bits, omega arith)
 
 same-length : tie.Need-same-length
 same-length c = search needs
@@ -37,7 +37,7 @@ same-length-3 : tie.Need-same-length-3
 same-length-3 c = search needs
 
 returns-3 : tie.Need-returns-3
-returns-3 c = c .before .before .radix .ensures ∙ rw (power (c .before .before .before .before) .is)
+returns-3 c = c .before .before .radix-by-bits .ensures ∙ rw (power (c .before .before .before .before) .is)
 
 pub write-digits-spec : {M : Type 1} → statement M
 write-digits-spec =
@@ -46,7 +46,7 @@ write-digits-spec =
     decimal-requires
     radix-32-requires
     digit-bits-requires
-    radix-requires
+    radix-by-bits-requires
     same-length
     returns
     same-length-2
