@@ -2,50 +2,52 @@
  * pointer here, so that only this file rests on how C passes them. */
 #include "hornbillrug.h"
 
-/* The layout that the header gives each struct: its size, then where each field begins. */
+/* The layout that the header gives each struct: its size, then where each field begins and how long it is. */
+#define FIELD(type, field) offsetof(type, field), sizeof(((type *)0)->field)
+
 const size_t through_format[] = {
     sizeof(lexical_format),
-    offsetof(lexical_format, required_exponent_notation),
-    offsetof(lexical_format, no_exponent_notation),
-    offsetof(lexical_format, required_exponent_sign),
-    offsetof(lexical_format, no_exponent_without_fraction),
-    offsetof(lexical_format, truncate),
-    offsetof(lexical_format, trim_floats),
-    offsetof(lexical_format, exponent),
-    offsetof(lexical_format, decimal_point),
-    offsetof(lexical_format, mantissa_radix),
-    offsetof(lexical_format, exponent_base),
-    offsetof(lexical_format, max_significant_digits),
-    offsetof(lexical_format, min_significant_digits),
-    offsetof(lexical_format, positive_exponent_break),
-    offsetof(lexical_format, negative_exponent_break),
-    offsetof(lexical_format, exponent_radix),
+    FIELD(lexical_format, required_exponent_notation),
+    FIELD(lexical_format, no_exponent_notation),
+    FIELD(lexical_format, required_exponent_sign),
+    FIELD(lexical_format, no_exponent_without_fraction),
+    FIELD(lexical_format, truncate),
+    FIELD(lexical_format, trim_floats),
+    FIELD(lexical_format, exponent),
+    FIELD(lexical_format, decimal_point),
+    FIELD(lexical_format, mantissa_radix),
+    FIELD(lexical_format, exponent_base),
+    FIELD(lexical_format, max_significant_digits),
+    FIELD(lexical_format, min_significant_digits),
+    FIELD(lexical_format, positive_exponent_break),
+    FIELD(lexical_format, negative_exponent_break),
+    FIELD(lexical_format, exponent_radix),
 };
 const size_t through_answer[] = {
     sizeof(lexical_answer),
-    offsetof(lexical_answer, number),
-    offsetof(lexical_answer, place),
-    offsetof(lexical_answer, value),
+    FIELD(lexical_answer, number),
+    FIELD(lexical_answer, place),
+    FIELD(lexical_answer, value),
 };
 const size_t through_answer_f64[] = {
     sizeof(lexical_answer_f64),
-    offsetof(lexical_answer_f64, number),
-    offsetof(lexical_answer_f64, place),
-    offsetof(lexical_answer_f64, value),
+    FIELD(lexical_answer_f64, number),
+    FIELD(lexical_answer_f64, place),
+    FIELD(lexical_answer_f64, value),
 };
 const size_t through_answer_f32[] = {
     sizeof(lexical_answer_f32),
-    offsetof(lexical_answer_f32, number),
-    offsetof(lexical_answer_f32, place),
-    offsetof(lexical_answer_f32, value),
+    FIELD(lexical_answer_f32, number),
+    FIELD(lexical_answer_f32, place),
+    FIELD(lexical_answer_f32, value),
 };
 const size_t through_station_answer[] = {
     sizeof(lexical_station_answer),
-    offsetof(lexical_station_answer, number),
-    offsetof(lexical_station_answer, writing),
-    offsetof(lexical_station_answer, station),
-    offsetof(lexical_station_answer, place),
-    offsetof(lexical_station_answer, value),
+    FIELD(lexical_station_answer, number),
+    FIELD(lexical_station_answer, writing),
+    FIELD(lexical_station_answer, station),
+    FIELD(lexical_station_answer, place),
+    FIELD(lexical_station_answer, value),
 };
 const size_t through_limits[] = {
     LEXICAL_LONGEST_TEXT, LEXICAL_LONGEST_READ, OUTAGE_MOST_WINDOWS,

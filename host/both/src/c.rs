@@ -13,11 +13,11 @@ use crate::{Calls, Rewritten, Written};
 pub struct C;
 
 extern "C" {
-    pub static through_format: [usize; 16];
-    pub static through_answer: [usize; 4];
-    pub static through_answer_f64: [usize; 4];
-    pub static through_answer_f32: [usize; 4];
-    pub static through_station_answer: [usize; 6];
+    pub static through_format: [usize; 31];
+    pub static through_answer: [usize; 7];
+    pub static through_answer_f64: [usize; 7];
+    pub static through_answer_f32: [usize; 7];
+    pub static through_station_answer: [usize; 11];
     pub static through_limits: [usize; 6];
     fn through_write_integer(v: u64, radix: u32, p: *mut u8, n: usize, answer: *mut Answer);
     fn through_write_f64(x: f64, f: &Format, p: *mut u8, n: usize, answer: *mut Answer);

@@ -6,35 +6,47 @@ use both::c;
 use hornbillrug::raw::{Answer, AnswerF32, AnswerF64, StationAnswer};
 use hornbillrug::{Format, Record};
 
+/// How long a field is, by a function that borrows it.
+const fn length_of<T, F>(_field: fn(&T) -> &F) -> usize {
+    size_of::<F>()
+}
+
+/// A struct's size, then where each field begins and how long it is.
+macro_rules! layout {
+    ($type:ty, $($field:ident),* $(,)?) => {
+        [
+            size_of::<$type>(),
+            $(offset_of!($type, $field), length_of(|s: &$type| &s.$field)),*
+        ]
+    };
+}
+
 #[test]
 fn format() {
-    let rust = [
-        size_of::<Format>(),
-        offset_of!(Format, required_exponent_notation),
-        offset_of!(Format, no_exponent_notation),
-        offset_of!(Format, required_exponent_sign),
-        offset_of!(Format, no_exponent_without_fraction),
-        offset_of!(Format, truncate),
-        offset_of!(Format, trim_floats),
-        offset_of!(Format, exponent),
-        offset_of!(Format, decimal_point),
-        offset_of!(Format, mantissa_radix),
-        offset_of!(Format, exponent_base),
-        offset_of!(Format, max_significant_digits),
-        offset_of!(Format, min_significant_digits),
-        offset_of!(Format, positive_exponent_break),
-        offset_of!(Format, negative_exponent_break),
-        offset_of!(Format, exponent_radix),
-    ];
+    let rust = layout!(
+        Format,
+        required_exponent_notation,
+        no_exponent_notation,
+        required_exponent_sign,
+        no_exponent_without_fraction,
+        truncate,
+        trim_floats,
+        exponent,
+        decimal_point,
+        mantissa_radix,
+        exponent_base,
+        max_significant_digits,
+        min_significant_digits,
+        positive_exponent_break,
+        negative_exponent_break,
+        exponent_radix,
+    );
     // SAFETY: a constant array of the C file.
     assert_eq!(rust, unsafe { c::through_format });
 }
 
 #[test]
 fn answers() {
-    macro_rules! layout {
-        ($type:ty, $($field:ident),*) => { [size_of::<$type>(), $(offset_of!($type, $field)),*] };
-    }
     // SAFETY: constant arrays of the C file.
     unsafe {
         assert_eq!(layout!(Answer, number, place, value), c::through_answer);
