@@ -55,10 +55,11 @@ abbrev pub answerOf : called.Answer ℕ → Answer
 answerOf (called.done n) = record { number = 0; place = 0; value = n }
 answerOf (called.refused n p) = record { number = n; place = p; value = 0 }
 
--- a float with number and place 0, or a refusal's number and place with value 0
+-- what stands in a float's place where none was read
 abbrev pub zeroFloat : Float
 zeroFloat = fin false 0 (pos 0)
 
+-- a float with number and place 0, or a refusal's number and place with value 0
 abbrev pub answerF64Of : called.Answer Float → AnswerF64
 answerF64Of (called.done x) = record { number = 0; place = 0; value = x }
 answerF64Of (called.refused n p) = record { number = n; place = p; value = zeroFloat }

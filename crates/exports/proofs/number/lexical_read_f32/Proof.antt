@@ -4,7 +4,7 @@ use denote.Ref.{now}
 use lib.Ieee.{binary32}
 use Rattle.lexical_reading.specs.Read.{readFloat}
 use Rattle.export_structs.specs.Structs.{answerF32Of}
-use Rattle.exports.proofs.ExportLaws.{read-handed-on}
+use Rattle.exports.proofs.ExportLaws.{answered}
 use Rattle.exports.proofs.number.lexical_read_f32.Statement.{statement}
 use Rattle.exports.proofs.number.lexical_read_f32.Tie as tie
 
@@ -26,7 +26,7 @@ returns c =
     let f = w .before in
     let o = f .before in
     let a = o .before .before .args in
-    read-handed-on answerF32Of (λ F o. readFloat binary32 F o (now (a .text))) (a .format) (f .format-of .ensures) (o .options-of .ensures) (w .read-f32 .ensures .0) (c .answer-f32-of .ensures)
+    answered answerF32Of (λ F o. readFloat binary32 F o (now (a .text))) (f .format-of .ensures) (o .options-of .ensures) (w .read-f32 .ensures .0) (c .answer-f32-of .ensures)
 
 pub lexical-read-f32-spec : {M : Type 1} → statement M
 lexical-read-f32-spec =

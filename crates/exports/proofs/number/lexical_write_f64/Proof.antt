@@ -1,8 +1,10 @@
 -- `exports::lexical_write_f64` meets its contract: what the call beneath answers and leaves, for the format and options of the struct. Assumes nothing.
 use borrow.Author.Needs.{needs}
 use denote.Ref.{now}
+use Rattle.lexical_util.specs.Answer.{written, held}
 use Rattle.lexical_text.specs.Write.{writeText}
-use Rattle.exports.proofs.ExportLaws.{format-handed-on}
+use Rattle.export_structs.specs.Structs.{answerOf}
+use Rattle.exports.proofs.ExportLaws.{handed-on}
 use Rattle.exports.proofs.number.lexical_write_f64.Statement.{statement}
 use Rattle.exports.proofs.number.lexical_write_f64.Tie as tie
 
@@ -27,7 +29,8 @@ returns c =
     let f = w .before .before in
     let o = f .before in
     let a = o .before .before .args in
-    format-handed-on (λ F o. writeText F o (a .x)) (a .format) (now (a .buffer)) (f .format-of .ensures) (o .options-of .ensures) (w .write-f64 .ensures .0) (w .write-f64 .ensures .1 .0) (c .answer-of .ensures)
+    let out = now (a .buffer) in
+    handed-on answerOf (λ F o. written (writeText F o (a .x)) out) (f .format-of .ensures) (o .options-of .ensures) (w .write-f64 .ensures .0) (c .answer-of .ensures) (λ F o. held (writeText F o (a .x)) out) (w .write-f64 .ensures .1 .0)
 
 pub lexical-write-f64-spec : {M : Type 1} → statement M
 lexical-write-f64-spec =

@@ -1,8 +1,7 @@
 -- `exports::lexical_write_integer` meets its contract: what the call beneath answers and leaves. Assumes nothing.
 use borrow.Author.Needs.{needs}
-use denote.Ref.{now}
-use Rattle.lexical_digits.specs.Write.{digitsText}
-use Rattle.exports.proofs.ExportLaws.{handed-on}
+use mathlib.Core.Path.{ap, _∙_}
+use Rattle.export_structs.specs.Structs.{answerOf}
 use Rattle.exports.proofs.number.lexical_write_integer.Statement.{statement}
 use Rattle.exports.proofs.number.lexical_write_integer.Tie as tie
 
@@ -18,8 +17,7 @@ same-length c = search needs
 returns : tie.Need-returns
 returns c =
     let w = c .before .before .before in
-    let a = w .before .before .before .args in
-    handed-on (digitsText (a .value) (a .radix)) (now (a .buffer)) (w .write-integer .ensures .0) (w .write-integer .ensures .1) (c .answer-of .ensures)
+    (c .answer-of .ensures ∙ ap answerOf (w .write-integer .ensures .0), w .write-integer .ensures .1)
 
 pub lexical-write-integer-spec : {M : Type 1} → statement M
 lexical-write-integer-spec =

@@ -2,8 +2,10 @@
 use borrow.Author.Needs.{needs}
 use denote.Ref.{now}
 use lib.ListN.{length}
+use Rattle.lexical_util.specs.Answer.{written, held}
 use Rattle.outage.specs.Calls.{sheetTable}
-use Rattle.exports.proofs.ExportLaws.{format-handed-on}
+use Rattle.export_structs.specs.Structs.{answerOf}
+use Rattle.exports.proofs.ExportLaws.{handed-on}
 use Rattle.exports.proofs.sheet.outage_sheet_to_table.Statement.{statement}
 use Rattle.exports.proofs.sheet.outage_sheet_to_table.Tie as tie
 
@@ -28,7 +30,8 @@ returns c =
     let f = w .before .before in
     let o = f .before in
     let a = o .before .before .before .args in
-    format-handed-on (λ F o. sheetTable F o (now (a .sheet)) (length (now (a .table)))) (a .format) (now (a .table)) (f .format-of .ensures) (o .options-of .ensures) (w .sheet-to-table .ensures .0) (w .sheet-to-table .ensures .1) (c .answer-of .ensures)
+    let out = now (a .table) in
+    handed-on answerOf (λ F o. written (sheetTable F o (now (a .sheet)) (length (now (a .table)))) out) (f .format-of .ensures) (o .options-of .ensures) (w .sheet-to-table .ensures .0) (c .answer-of .ensures) (λ F o. held (sheetTable F o (now (a .sheet)) (length (now (a .table)))) out) (w .sheet-to-table .ensures .1)
 
 pub outage-sheet-to-table-spec : {M : Type 1} → statement M
 outage-sheet-to-table-spec =

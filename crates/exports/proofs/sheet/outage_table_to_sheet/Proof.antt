@@ -1,8 +1,10 @@
 -- `exports::outage_table_to_sheet` meets its contract: what the call beneath answers and leaves, for the format and options of the struct. Assumes nothing.
 use borrow.Author.Needs.{needs}
 use denote.Ref.{now}
+use Rattle.lexical_util.specs.Answer.{written, held}
 use Rattle.outage.specs.Calls.{tableSheet}
-use Rattle.exports.proofs.ExportLaws.{format-handed-on}
+use Rattle.export_structs.specs.Structs.{answerOf}
+use Rattle.exports.proofs.ExportLaws.{handed-on}
 use Rattle.exports.proofs.sheet.outage_table_to_sheet.Statement.{statement}
 use Rattle.exports.proofs.sheet.outage_table_to_sheet.Tie as tie
 
@@ -27,7 +29,8 @@ returns c =
     let f = w .before .before in
     let o = f .before in
     let a = o .before .before .before .args in
-    format-handed-on (λ F o. tableSheet F o (now (a .table))) (a .format) (now (a .sheet)) (f .format-of .ensures) (o .options-of .ensures) (w .table-to-sheet .ensures .0) (w .table-to-sheet .ensures .1 .0) (c .answer-of .ensures)
+    let out = now (a .sheet) in
+    handed-on answerOf (λ F o. written (tableSheet F o (now (a .table))) out) (f .format-of .ensures) (o .options-of .ensures) (w .table-to-sheet .ensures .0) (c .answer-of .ensures) (λ F o. held (tableSheet F o (now (a .table))) out) (w .table-to-sheet .ensures .1 .0)
 
 pub outage-table-to-sheet-spec : {M : Type 1} → statement M
 outage-table-to-sheet-spec =

@@ -6,7 +6,7 @@ use Rattle.lexical_rewriting.specs.declared.text_format.TextFormat.{TextFormat}
 use Rattle.lexical_rewriting.specs.Record.{formatsOf}
 use Rattle.lexical_rewriting.specs.Chain.{Outcome, chainOf}
 use Rattle.export_structs.specs.Structs.{stationAnswerOf}
-use Rattle.exports.proofs.ExportLaws.{rewriting-handed-on}
+use Rattle.exports.proofs.ExportLaws.{handed-on}
 use Rattle.exports.proofs.station.lexical_chain_f32.Statement.{statement}
 use Rattle.exports.proofs.station.lexical_chain_f32.Tie as tie
 
@@ -32,8 +32,7 @@ returns c =
     let f = g .before in
     let a = f .before .before .before .before .args in
     let ran : TextFormat → TextFormat → Outcome = λ F G. chainOf binary32 F (now (a .text)) G (formatsOf (now (a .further))) (now (a .buffer)) in
-    rewriting-handed-on stationAnswerOf (λ F G. ran F G .answer) (λ F G. ran F G .bytes)
-    (a .from) (a .first) (f .text-format-of .ensures) (g .text-format-of2 .ensures) (w .chain-f32 .ensures .0) (w .chain-f32 .ensures .1 .0) (c .chained-of .ensures)
+    handed-on stationAnswerOf (λ F G. ran F G .answer) (f .text-format-of .ensures) (g .text-format-of2 .ensures) (w .chain-f32 .ensures .0) (c .chained-of .ensures) (λ F G. ran F G .bytes) (w .chain-f32 .ensures .1 .0)
 
 pub lexical-chain-f32-spec : {M : Type 1} → statement M
 lexical-chain-f32-spec =

@@ -5,7 +5,7 @@ use lib.Ieee.{binary32}
 use Rattle.lexical_rewriting.specs.Rewrite.{readIn, rewriteAnswer, rewriteBytes}
 use Rattle.lexical_rewriting.specs.Chain.{atStation}
 use Rattle.export_structs.specs.Structs.{stationAnswerOf}
-use Rattle.exports.proofs.ExportLaws.{rewriting-handed-on}
+use Rattle.exports.proofs.ExportLaws.{handed-on}
 use Rattle.exports.proofs.station.lexical_rewrite_f32.Statement.{statement}
 use Rattle.exports.proofs.station.lexical_rewrite_f32.Tie as tie
 
@@ -31,10 +31,9 @@ returns c =
     let f = g .before in
     let a = f .before .before .before .args in
     let out = now (a .buffer) in
-    rewriting-handed-on (λ answer. stationAnswerOf (atStation 0 answer))
-    (λ F G. rewriteAnswer G out (readIn binary32 F (now (a .text))))
-    (λ F G. rewriteBytes G out (readIn binary32 F (now (a .text))))
-    (a .from) (a .to) (f .text-format-of .ensures) (g .text-format-of2 .ensures) (w .rewrite-f32 .ensures .0) (w .rewrite-f32 .ensures .1) (c .rewritten-of .ensures)
+    handed-on (λ answer. stationAnswerOf (atStation 0 answer)) (λ F G. rewriteAnswer G out (readIn binary32 F (now (a .text))))
+    (f .text-format-of .ensures) (g .text-format-of2 .ensures) (w .rewrite-f32 .ensures .0) (c .rewritten-of .ensures)
+    (λ F G. rewriteBytes G out (readIn binary32 F (now (a .text)))) (w .rewrite-f32 .ensures .1)
 
 pub lexical-rewrite-f32-spec : {M : Type 1} → statement M
 lexical-rewrite-f32-spec =
