@@ -13,9 +13,9 @@ unfoldable pub baseBits : ℕ → ℕ → ℕ → ℕ
 baseBits radix base b = cond (eqb radix base) b (cond (eqb 2 base) 1 (cond (eqb 4 base && eqb 16 radix) 2 0))
 
 -- 3 of a radix, a point and a mark
-abbrev pub badPair : ℕ → ℕ → ℕ → Bool
-badPair radix point mark = badByte radix point || (badByte radix mark || eqb point mark)
+abbrev pub badBytesOf : ℕ → ℕ → ℕ → Bool
+badBytesOf radix point mark = badByte radix point || (badByte radix mark || eqb point mark)
 
 -- the reader's 1, 2, 3
 unfoldable pub readingOf : ℕ → ℕ → ℕ → ℕ → ℕ → Answer Pair
-readingOf radix base power point mark = checkedPair ((2, not (isRadix power)) ∷ (3, badPair radix point mark) ∷ []) (findPair radix base pairs)
+readingOf radix base power point mark = checkedPair ((2, not (isRadix power)) ∷ (3, badBytesOf radix point mark) ∷ []) (findPair radix base pairs)

@@ -2,7 +2,7 @@
 ghost use mathlib.Core.Path.{_≡_};
 ghost use Rattle.lexical_util.specs.Answer.{done, checked};
 ghost use Rattle.lexical_format.specs.Format.{badByte, badCounts, orAbsent, outside, readingFormat, checkedFormat, settled, writingChecks, ofReadingCheck, ofWritingCheck};
-ghost use Rattle.lexical_format.specs.Code.{badPair, readingOf};
+ghost use Rattle.lexical_format.specs.Code.{badBytesOf, readingOf};
 use crate::format::FoundPair;
 use crate::format::NumberFormat;
 use crate::format::Pair;
@@ -46,7 +46,7 @@ fn bad_byte(radix: u32, byte: u8) -> bool
 
 // 3: a bad point, a bad mark, or the two equal.
 fn bad_bytes(radix: u32, point: u8, mark: u8) -> bool
-    ensures { λ r. ⌜ r ≡ badPair radix point mark ⌝ }
+    ensures { λ r. ⌜ r ≡ badBytesOf radix point mark ⌝ }
 {
     bad_byte(radix, point) || bad_byte(radix, mark) || point == mark
 }
