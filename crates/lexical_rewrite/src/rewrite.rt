@@ -3,6 +3,7 @@ ghost use mathlib.Core.Path.{_≡_};
 ghost use lib.Ieee.{binary32, binary64};
 ghost use Rattle.lexical_util.specs.Answer.{ofWritten};
 ghost use Rattle.lexical_rewriting.specs.Rewrite.{byWriting, readIn, rewriteAnswer, rewriteBytes};
+ghost use Rattle.lexical_rewriting.specs.Demand.{SameAsOthers};
 ghost use Rattle.lexical_read_float.specs.Answer.{ofReadF32, ofReadF64};
 ghost use Rattle.lexical_rewrite.specs.Answer.{ofRewritten};
 use lexical_read_float::ReadF32;
@@ -57,6 +58,7 @@ pub(crate) fn write_read_f32(answer: ReadF32, to: TextFormat, buffer: &mut [u8])
 pub fn rewrite_f64(text: &[u8], from: TextFormat, to: TextFormat, buffer: &mut [u8]) -> Rewritten
     ensures { λ r. ⌜ ofRewritten r ≡ rewriteAnswer to (now (buffer .entry)) (readIn binary64 from (now (text .entry))) ⌝ }
     ensures { λ _. ⌜ now (buffer .exit) ≡ rewriteBytes to (now (buffer .entry)) (readIn binary64 from (now (text .entry))) ⌝ }
+    ensures same_bytes { λ r. ⌜ SameAsOthers binary64 from (now (text .entry)) to (now (buffer .entry)) (ofRewritten r) (now (buffer .exit)) ⌝ }
 {
     let answer = read_f64(text, from.format, from.options);
     write_read_f64(answer, to, buffer)
@@ -66,6 +68,7 @@ pub fn rewrite_f64(text: &[u8], from: TextFormat, to: TextFormat, buffer: &mut [
 pub fn rewrite_f32(text: &[u8], from: TextFormat, to: TextFormat, buffer: &mut [u8]) -> Rewritten
     ensures { λ r. ⌜ ofRewritten r ≡ rewriteAnswer to (now (buffer .entry)) (readIn binary32 from (now (text .entry))) ⌝ }
     ensures { λ _. ⌜ now (buffer .exit) ≡ rewriteBytes to (now (buffer .entry)) (readIn binary32 from (now (text .entry))) ⌝ }
+    ensures same_bytes { λ r. ⌜ SameAsOthers binary32 from (now (text .entry)) to (now (buffer .entry)) (ofRewritten r) (now (buffer .exit)) ⌝ }
 {
     let answer = read_f32(text, from.format, from.options);
     write_read_f32(answer, to, buffer)

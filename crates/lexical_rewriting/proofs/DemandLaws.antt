@@ -8,9 +8,9 @@ use lib.Ieee.{Float, Format}
 use Rattle.lexical_util.specs.Digit.{All}
 use Rattle.lexical_util.proofs.AnswerLaws.{done-same}
 use Rattle.lexical_rewriting.specs.declared.text_format.TextFormat.{TextFormat}
-use Rattle.lexical_rewriting.specs.Rewrite.{readIn, textIn}
+use Rattle.lexical_rewriting.specs.Rewrite.{Rewriting, readIn, textIn, rewriteAnswer, rewriteBytes}
 use Rattle.lexical_rewriting.specs.Chain.{Chained, atStation, lastStation, chain, ownBuffer, stationOf, stationsOf, chainOf, lastFormat}
-use Rattle.lexical_rewriting.specs.Demand.{Admits, Roomy, SameFloatSameBytes, Arrives, Ready, ChainArrives, NeverLost}
+use Rattle.lexical_rewriting.specs.Demand.{Admits, Roomy, SameAsOthers, SameFloatSameBytes, Arrives, Ready, ChainArrives, NeverLost}
 use Rattle.lexical_rewriting.proofs.StationLaws.{Has, has-text, station-answer, station-bytes, station-hands}
 
 -- ---- same float, same bytes
@@ -22,7 +22,7 @@ floats-same : (f : Format) (G : TextFormat) (x x' : Float) (h : Has f G x) (h' :
 floats-same f G x x' h h' e = done-same x x' (sym (h .back) ∙ ap (readIn f G) e ∙ h' .back)
 
 pub same-float-same-bytes : SameFloatSameBytes
-same-float-same-bytes f F F' t t' G out out' x x' read read' A room room' =
+same-float-same-bytes f F t G out F' t' out' x x' read read' A room room' =
     let h = has-text f F t G x read A in
     let h' = has-text f F' t' G x' read' A in
     let hands = station-hands f F t G out x read h room in
@@ -35,6 +35,11 @@ same-float-same-bytes f F F' t t' G out out' x x' read read' A room room' =
       same = λ e. let s = texts-same f G x x' h h' e in (ap length s, hands ∙ s ∙ sym hands');
       only = λ _ e. floats-same f G x x' h h' (sym hands ∙ e ∙ hands');
     }
+
+-- the same of a call that answers and leaves what rewriting does
+pub same-as-others-by : (f : Format) (F : TextFormat) (t : List ℕ) (G : TextFormat) (out : List ℕ) (answer : Rewriting) (bytes : List ℕ)
+    → answer ≡ rewriteAnswer G out (readIn f F t) → bytes ≡ rewriteBytes G out (readIn f F t) → SameAsOthers f F t G out answer bytes
+same-as-others-by f F t G out answer bytes p q = rw (p, q) (same-float-same-bytes f F t G out)
 
 -- ---- the chain
 pub chain-arrives : ChainArrives

@@ -11,7 +11,7 @@ use Rattle.lexical_format.specs.declared.format.Pair.{Pair}
 use Rattle.lexical_format.specs.Format.{writingFormat}
 use Rattle.lexical_rewriting.specs.declared.text_format.TextFormat.{TextFormat}
 use Rattle.lexical_rewriting.specs.Claims.{Denotes}
-use Rattle.lexical_rewriting.specs.Rewrite.{rewritten, readIn, textIn, rewriteAnswer, rewriteBytes}
+use Rattle.lexical_rewriting.specs.Rewrite.{Rewriting, rewritten, readIn, textIn, rewriteAnswer, rewriteBytes}
 use Rattle.lexical_rewriting.specs.Chain.{Station, Chained, arrived, lastStation, chain, lastFormat}
 
 -- the reader accepts t under F, and its float is x: none of the reader's checks refuses it, and x is what its rounding rule picks
@@ -29,20 +29,26 @@ abbrev pub Roomy : List ℕ → Type 0
 Roomy out = 2275 ≤ length out
 
 -- ---- same float, same bytes
--- two texts, each in its own format, rewritten in G: both rewritings succeed, and lengths and bytes are equal exactly where the floats are
-module _ (f : Format) (F F' : TextFormat) (t t' : List ℕ) (G : TextFormat) (out out' : List ℕ) where
+-- two rewritings answered and left these bytes: both succeed, and lengths and bytes are equal exactly where the floats are
+module _ (answer : Rewriting) (bytes : List ℕ) (answer' : Rewriting) (bytes' : List ℕ) where
   pub record SameExactlyWhen (x x' : Float) : Type 0 where
     pub n : ℕ
     pub n' : ℕ
-    pub first : rewriteAnswer G out (readIn f F t) ≡ rewritten n
-    pub second : rewriteAnswer G out' (readIn f F' t') ≡ rewritten n'
-    pub same : x ≡ x' → (n ≡ n') × (take n (rewriteBytes G out (readIn f F t)) ≡ take n' (rewriteBytes G out' (readIn f F' t')))
-    pub only : n ≡ n' → take n (rewriteBytes G out (readIn f F t)) ≡ take n' (rewriteBytes G out' (readIn f F' t')) → x ≡ x'
+    pub first : answer ≡ rewritten n
+    pub second : answer' ≡ rewritten n'
+    pub same : x ≡ x' → (n ≡ n') × (take n bytes ≡ take n' bytes')
+    pub only : n ≡ n' → take n bytes ≡ take n' bytes' → x ≡ x'
+
+-- what is said of one rewriting of t from F in G, which answered and left these bytes: it is so against every other text, in a format of its own and rewritten in G into a buffer of its own
+abbrev pub SameAsOthers : Format → TextFormat → List ℕ → TextFormat → List ℕ → Rewriting → List ℕ → Type 0
+SameAsOthers f F t G out answer bytes =
+    (F' : TextFormat) (t' out' : List ℕ) (x x' : Float) → IsFloatOf f F t x → IsFloatOf f F' t' x' → Admits G → Roomy out → Roomy out'
+    → SameExactlyWhen answer bytes (rewriteAnswer G out' (readIn f F' t')) (rewriteBytes G out' (readIn f F' t')) x x'
 
 abbrev pub SameFloatSameBytes : Type 0
 SameFloatSameBytes =
-    (f : Format) (F F' : TextFormat) (t t' : List ℕ) (G : TextFormat) (out out' : List ℕ) (x x' : Float)
-    → IsFloatOf f F t x → IsFloatOf f F' t' x' → Admits G → Roomy out → Roomy out' → SameExactlyWhen f F F' t t' G out out' x x'
+    (f : Format) (F : TextFormat) (t : List ℕ) (G : TextFormat) (out : List ℕ)
+    → SameAsOthers f F t G out (rewriteAnswer G out (readIn f F t)) (rewriteBytes G out (readIn f F t))
 
 -- ---- the chain
 -- the answer is the length of G's text of x, and the bytes are that text and behind it what the buffer held; the text denotes exactly the value of x

@@ -33,7 +33,7 @@ returns c =
     let out = now (a .buffer) in
     handed-on (λ answer. stationAnswerOf (atStation 0 answer)) (λ F G. rewriteAnswer G out (readIn binary32 F (now (a .text))))
     (f .text-format-of .ensures) (g .text-format-of2 .ensures) (w .rewrite-f32 .ensures .0) (c .rewritten-of .ensures)
-    (λ F G. rewriteBytes G out (readIn binary32 F (now (a .text)))) (w .rewrite-f32 .ensures .1)
+    (λ F G. rewriteBytes G out (readIn binary32 F (now (a .text)))) (w .rewrite-f32 .ensures .1 .0)
 
 pub lexical-rewrite-f32-spec : {M : Type 1} → statement M
 lexical-rewrite-f32-spec =
