@@ -26,6 +26,7 @@ pub record IsPair (p : Pair) : Type 0 where
   pub some-bits : 0 < p .b
   pub few-bits : p .b ≤ 5
   pub base-bits : 0 < p .c
+  pub few-base-bits : p .c ≤ 5
   pub whole : p .b / p .c * p .c ≡ p .b
 
 -- so p * b / c is whole
@@ -33,7 +34,7 @@ pub power-whole : (row : Pair) (p : ℤ) → IsPair row → power (row .b) (row 
 power-whole row p P = power-exact (row .b) (row .c) p (P .whole)
 
 abbrev test : Pair → Bool
-test p = eqb (p .radix) (2 ^ p .b) && eqb (p .base) (2 ^ p .c) && ltb 0 (p .b) && leb (p .b) 5 && ltb 0 (p .c) && eqb (p .b / p .c * p .c) (p .b)
+test p = eqb (p .radix) (2 ^ p .b) && eqb (p .base) (2 ^ p .c) && ltb 0 (p .b) && leb (p .b) 5 && ltb 0 (p .c) && leb (p .c) 5 && eqb (p .b / p .c * p .c) (p .b)
 
 tested : (p : Pair) → T (test p) → IsPair p
 tested p t =
@@ -42,8 +43,10 @@ tested p t =
     let C = ltb 0 (p .b) in
     let D = leb (p .b) 5 in
     let E = ltb 0 (p .c) in
-    let F = eqb (p .b / p .c * p .c) (p .b) in
-    let t5 = and-l (A && B && C && D && E) F t in
+    let F = leb (p .c) 5 in
+    let G = eqb (p .b / p .c * p .c) (p .b) in
+    let t6 = and-l (A && B && C && D && E && F) G t in
+    let t5 = and-l (A && B && C && D && E) F t6 in
     let t4 = and-l (A && B && C && D) E t5 in
     let t3 = and-l (A && B && C) D t4 in
     let t2 = and-l (A && B) C t3 in
@@ -53,7 +56,8 @@ tested p t =
       some-bits = ltb→lt 0 (p .b) (and-r (A && B) C t3);
       few-bits = leb→le (p .b) 5 (and-r (A && B && C) D t4);
       base-bits = ltb→lt 0 (p .c) (and-r (A && B && C && D) E t5);
-      whole = eqb→eq (p .b / p .c * p .c) (p .b) (and-r (A && B && C && D && E) F t);
+      few-base-bits = leb→le (p .c) 5 (and-r (A && B && C && D && E) F t6);
+      whole = eqb→eq (p .b / p .c * p .c) (p .b) (and-r (A && B && C && D && E && F) G t);
     }
 
 abbrev AllTested : List Pair → Type 0
@@ -82,25 +86,36 @@ found-row radix base (p ∷ ps) row all e = go (eqb (p .radix) radix) refl (eqb 
     go false q b r more e = more e
 
 -- ---- a format that the reader takes
+-- a byte that point or mark may be
+pub record GoodByte (radix x : ℕ) : Type 0 where
+  pub from : 33 ≤ x
+  pub to : x ≤ 126
+  pub off : isDigit radix x ≡ false
+
 pub record Readable (F : NumberFormat) (o : Options) (row : Pair) : Type 0 where
   pub pair : IsPair row
   pub radix-is : F .«mantissa_radix» ≡ 2 ^ row .b
+  pub base-is : F .«exponent_base» ≡ row .base
   pub power : isRadix (F .«exponent_radix») ≡ true
-  pub point-off : isDigit (F .«mantissa_radix») (o .«decimal_point») ≡ false
-  pub mark-off : isDigit (F .«mantissa_radix») (o .exponent) ≡ false
+  pub point : GoodByte (F .«mantissa_radix») (o .«decimal_point»)
+  pub mark : GoodByte (F .«mantissa_radix») (o .exponent)
   pub differ : eqb (o .«decimal_point») (o .exponent) ≡ false
 
 pub neither : (a b : Bool) → (a || b) ≡ false → (a ≡ false) × (b ≡ false)
 neither true b e = (e, absurd (let z : _≡_ {A = ℕ} 0 1 = cc in omega arith))
 neither false b e = (refl, e)
 
-byte-off : (radix x : ℕ) → badByte radix x ≡ false → isDigit radix x ≡ false
+good-byte : (radix x : ℕ) → badByte radix x ≡ false → GoodByte radix x
 unfolding badByte
-byte-off radix x e =
+good-byte radix x e =
     let a = neither (ltb x 33) _ e in
     let b = neither (ltb 126 x) _ (a .1) in
     let c = neither (eqb x 43) _ (b .1) in
-    neither (eqb x 45) _ (c .1) .1
+    record {
+      from = ltb-false x 33 (a .0);
+      to = ltb-false 126 x (b .0);
+      off = neither (eqb x 45) _ (c .1) .1;
+    }
 
 with-row : (F : NumberFormat) (o : Options) (found row : Pair) (more : List Check) → pairOf F ≡ some found → checked (readingChecks F o ++ more) (done found) ≡ done row → Readable F o row × Passed more
 unfolding pairOf badBytes
@@ -112,9 +127,10 @@ with-row F o found row more q e =
       record {
         pair = r .0;
         radix-is = sym (r .1) ∙ r .0 .radix-is;
+        base-is = sym (r .2);
         power = not-false (isRadix (F .«exponent_radix»)) (k .0 .0);
-        point-off = byte-off (F .«mantissa_radix») (o .«decimal_point») (a .0);
-        mark-off = byte-off (F .«mantissa_radix») (o .exponent) (b .0);
+        point = good-byte (F .«mantissa_radix») (o .«decimal_point») (a .0);
+        mark = good-byte (F .«mantissa_radix») (o .exponent) (b .0);
         differ = b .1;
       },
       k .0 .1 .1,

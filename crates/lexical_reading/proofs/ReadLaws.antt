@@ -47,8 +47,8 @@ apart F o row e =
       radix-small = rw (r .radix-is) (pow-mono (r .pair .few-bits));
       power-pos = omega arith;
       power-small = q .1;
-      point-off = no-digit (F .«mantissa_radix») (o .«decimal_point») (r .point-off);
-      mark-off = no-digit (F .«mantissa_radix») (o .exponent) (r .mark-off);
+      point-off = no-digit (F .«mantissa_radix») (o .«decimal_point») (r .point .off);
+      mark-off = no-digit (F .«mantissa_radix») (o .exponent) (r .mark .off);
       differ = ne-eqb (o .exponent) (o .«decimal_point») (λ z. eqb-false (o .«decimal_point») (o .exponent) (r .differ) (sym z));
     }
 

@@ -1,52 +1,26 @@
 -- No byte below 33, a space or an LF say, stands in a text that was written: point and mark are checked, and digits and signs lie above. And which floats have a text. Assumes nothing.
-use Prim.Native.Nat.{ℕ, _+_, _≤_, _<_}
+use Prim.Native.Nat.{ℕ, _≤_, _<_}
 use mathlib.Core.Path.{_≡_, refl, subst}
 use mathlib.Core.Bool.{Bool, true, false}
 use mathlib.Core.List.{List, [], _∷_, _++_, map}
-use mathlib.Core.Option.{Option, none, some}
 use native.Mathlib.Omega.{arith}
 use borrow.Author.Tests.{ltb-true, ltb-false}
 use lib.Dec.{ltb}
 use lib.Ieee.{Float, nan, inf, fin}
 use Rattle.lexical_util.specs.Answer.{done}
 use Rattle.lexical_util.specs.Digit.{digitByte}
-use Rattle.lexical_util.proofs.AnswerLaws.{refused-done, passed}
 use Rattle.lexical_util.proofs.DigitLaws.{byte-figure, byte-capital}
 use Rattle.lexical_format.specs.declared.format.NumberFormat.{NumberFormat}
 use Rattle.lexical_format.specs.declared.format.Pair.{Pair}
 use Rattle.lexical_format.specs.declared.options.Options.{Options}
-use Rattle.lexical_format.specs.Format.{badByte, badBytes, readingChecks, checkedPair, pairOf, readingFormat, writingFormat}
-use Rattle.lexical_format.proofs.FormatLaws.{neither}
+use Rattle.lexical_format.specs.Format.{readingFormat, writingFormat}
+use Rattle.lexical_format.proofs.FormatLaws.{readable}
 use Rattle.lexical_text.specs.Write.{limitedText, floatText, writeText}
 use Rattle.lexical_reading.specs.Shape.{Grammar, Sign, unsigned, plus, minus, Tail, absent, exponent, Shape, signBytes, tailBytes, fractionBytes, print}
 use Rattle.lexical_reading.specs.Read.{grammarOf}
 use Rattle.lexical_rewriting.proofs.WrittenLaws.{written-is-shaped}
 use Rattle.outage.specs.Window.{isPlain}
 use Rattle.outage.proofs.BeforeLaws.{Lacks, lacks-append}
-
--- ---- point and mark
-good-byte : (radix x : ℕ) → badByte radix x ≡ false → 33 ≤ x
-unfolding badByte
-good-byte radix x e = ltb-false x 33 (neither (ltb x 33) _ e .0)
-
-record Visible (o : Options) : Type 0 where
-  pub point : 33 ≤ o .«decimal_point»
-  pub mark : 33 ≤ o .exponent
-
-visible : (F : NumberFormat) (o : Options) (row : Pair) → readingFormat F o ≡ done row → Visible o
-unfolding readingFormat badBytes
-visible F o row e = go (pairOf F) e
-  where
-    go : (p : Option Pair) → checkedPair (readingChecks F o) p ≡ done row → Visible o
-    go none e = absurd (refused-done 1 0 row e)
-    go (some found) e =
-        let k = passed (readingChecks F o) found row e in
-        let p = neither (badByte (F .«mantissa_radix») (o .«decimal_point»)) _ (k .0 .1 .0) in
-        let m = neither (badByte (F .«mantissa_radix») (o .exponent)) _ (p .1) in
-        record {
-          point = good-byte (F .«mantissa_radix») (o .«decimal_point») (p .0);
-          mark = good-byte (F .«mantissa_radix») (o .exponent) (m .0);
-        }
 
 -- ---- the bytes of a shape
 digit-above : (d : ℕ) → 48 ≤ digitByte d
@@ -84,8 +58,8 @@ module _ (b : ℕ) (low : b < 33) where
 pub text-lacks : (b : ℕ) → b < 33 → (F : NumberFormat) (o : Options) (row : Pair) (x : Float) (t : List ℕ) → readingFormat F o ≡ done row → writeText F o x ≡ done t → Lacks b t
 text-lacks b low F o row x t r e =
     let shaped = written-is-shaped F o x t e in
-    let seen = visible F o row r in
-    subst (Lacks b) (shaped .printed) (print-lacks b low (grammarOf F o) (seen .point) (seen .mark) (shaped .shape))
+    let seen = readable F o row r in
+    subst (Lacks b) (shaped .printed) (print-lacks b low (grammarOf F o) (seen .point .from) (seen .mark .from) (shaped .shape))
 
 -- a finite float with the sign bit clear has a text in every format that the writer admits
 pub plain-text : (F : NumberFormat) (o : Options) (row : Pair) → writingFormat F o ≡ done row → (x : Float) → isPlain x ≡ true → (t : List ℕ) × (writeText F o x ≡ done t)
