@@ -1,4 +1,4 @@
--- The chains worked out by hand hold, by evaluation: a failing one's name would stand in the list. Assumes nothing.
+-- The chains and records worked out by hand hold, by evaluation: a failing one's name would stand in the list. Assumes nothing.
 use mathlib.Core.Path.{_≡_, refl}
 use mathlib.Core.List.{[]}
 use lib.Count.{trailingZeros}
@@ -15,9 +15,13 @@ use Rattle.lexical_reading.specs.Parse.{run, signedExponent, parseTail, afterWh
 use Rattle.lexical_reading.specs.Round.{tooLarge}
 use Rattle.lexical_reading.specs.Read.{numerator, denominator, floatOf, exponentTooLarge, exponentPlace, valueOf, readText, readFloat}
 use Rattle.lexical_rewriting.specs.Chain.{chain}
-use Rattle.lexical_rewriting.specs.Record.{numberFormatOf, optionsOf, recordsOf, formatsOf}
-use Rattle.lexical_rewriting.specs.Examples.{chains}
+use Rattle.lexical_rewriting.specs.Record.{numberFormatOf, optionsOf, recordsOf, formatsOf, recordOf}
+use Rattle.lexical_rewriting.specs.Examples.{chains, records}
 
 pub chains-hold : failing chains ≡ []
 unfolding failing chains chain formatsOf recordsOf numberFormatOf optionsOf readFloat readText valueOf exponentTooLarge exponentPlace floatOf numerator denominator tooLarge shapeOf parse afterWhole parseTail signedExponent run readingFormat readOn writeText floatText limitedText text positive negative exponentText scientific layoutOf isScientific limited multipleOf exactDigits normal writingFormat badBreaks badCounts badBytes badByte pairOf findPair pairs numeral digits digitsUpTo isRadix isDigit digitIn digitValue digitByte round units odd size span climb trailingZeros
 chains-hold = refl
+
+pub records-hold : failing records ≡ []
+unfolding failing records recordOf
+records-hold = refl

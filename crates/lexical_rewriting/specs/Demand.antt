@@ -1,6 +1,6 @@
 -- Demand 3: what is said of rewriting and of a chain, at each width, for all texts that the reader accepts, all formats that the writer admits without a digit limit,
--- and all buffers of at least 2,275 bytes, whatever they held. Statements only; `DemandLaws` proves them.
-use Prim.Native.Nat.{ℕ, _≤_}
+-- and all buffers of at least 2,275 bytes, whatever they held. Statements only; `DemandLaws` proves them, and `RecordLaws` those of records.
+use Prim.Native.Nat.{ℕ, _≤_, _<_}
 use mathlib.Core.Path.{_≡_}
 use mathlib.Core.List.{List, _++_}
 use lib.ListN.{length, take, drop}
@@ -13,6 +13,7 @@ use Rattle.lexical_rewriting.specs.declared.text_format.TextFormat.{Text
 use Rattle.lexical_rewriting.specs.Claims.{Denotes}
 use Rattle.lexical_rewriting.specs.Rewrite.{Rewriting, rewritten, readIn, textIn, rewriteAnswer, rewriteBytes}
 use Rattle.lexical_rewriting.specs.Chain.{Station, Chained, arrived, lastStation, chain, lastFormat}
+use Rattle.lexical_rewriting.specs.Record.{formatOf, formatsOf, recordOf, joined, FitsRecord}
 
 -- the reader accepts t under F, and its float is x: none of the reader's checks refuses it, and x is what its rounding rule picks
 abbrev pub IsFloatOf : Format → TextFormat → List ℕ → Float → Type 0
@@ -73,3 +74,20 @@ ChainArrives =
 abbrev pub NeverLost : Format → TextFormat → List ℕ → TextFormat → List TextFormat → List ℕ → Chained → List ℕ → Type 0
 NeverLost f F t G Gs out answer bytes =
     (x : Float) → IsFloatOf f F t x → Admits G → All Admits Gs → Roomy out → Arrives x (lastFormat G Gs) out answer bytes
+
+-- ---- every format that the writer admits can be given to a chain; `RecordLaws` proves it
+-- the record of a format whose fields fit is bytes,
+abbrev pub RecordIsBytes : Type 0
+RecordIsBytes = (G : TextFormat) → FitsRecord G → All (λ b. b < 256) (recordOf G)
+
+-- is read back as that format, whatever follows it,
+abbrev pub RecordIsReadBack : Type 0
+RecordIsReadBack = (G : TextFormat) (rest : List ℕ) → FitsRecord G → formatOf (recordOf G ++ rest) ≡ G
+
+-- and so is every list of them, as a chain is given it
+abbrev pub RecordsAreReadBack : Type 0
+RecordsAreReadBack = (Gs : List TextFormat) → All FitsRecord Gs → formatsOf (joined Gs) ≡ Gs
+
+-- the fields of every format that the writer admits fit, with a digit limit or without
+abbrev pub AdmittedFits : Type 0
+AdmittedFits = (G : TextFormat) (row : Pair) → writingFormat (G .format) (G .options) ≡ done row → FitsRecord G

@@ -1,16 +1,18 @@
--- Chains worked out by hand, as one list against the definition that the contracts cite. Definitions only.
+-- Chains worked out by hand, as one list against the definition that the contracts cite; and records. Definitions only.
 use Prim.Native.Nat.{ℕ}
 use Prim.Native.String.{String}
-use mathlib.Core.Bool.{Bool, false, _&&_}
+use mathlib.Core.Bool.{Bool, true, false, _&&_}
 use mathlib.Core.List.{List, [], _∷_, _++_}
 use lib.Dec.{eqb}
+use lib.IntN.{pos, negsuc}
 use lib.ListN.{take, replicate}
 use lib.Ieee.{Format, binary32, binary64}
 use Rattle.lexical_util.specs.Examples.{bytes, sameBytes, Example}
+use Rattle.lexical_format.specs.declared.options.RoundMode.the-variants.{Truncate}
 use Rattle.lexical_reading.specs.Examples.{format, options}
 use Rattle.lexical_rewriting.specs.declared.text_format.TextFormat.{TextFormat}
 use Rattle.lexical_rewriting.specs.Chain.{Chained, arrived, readingRefusedAt, writingRefusedAt, Outcome, chainOf}
-use Rattle.lexical_rewriting.specs.Record.{formatsOf}
+use Rattle.lexical_rewriting.specs.Record.{formatsOf, recordOf}
 
 -- exponent radix 10, point ".", all else default
 abbrev inPair : ℕ → ℕ → ℕ → TextFormat
@@ -53,4 +55,38 @@ chains =
     ∷ sent "a record cut off before its mark" binary64 "1.8p0" (take 18 record2) 8 (writingRefusedAt 1 3 0) (lent 8)
     ∷ sent "2 ^ -24 above 1, kept in 64 bits" binary64 "1.000001p0" record2 30 (arrived 26) (bytes "1.000000000000000000000001" ++ lent 4)
     ∷ sent "and a tie in 32 bits, to the even float" binary32 "1.000001p0" record2 30 (arrived 3) (bytes "1.0" ++ lent 27)
+    ∷ []
+
+-- ---- records
+-- 32/2, exponent radix 16, point ",", mark "^"; every flag on, Truncate, most and least 1,200, breaks 2,000 and -2,000
+abbrev fullest : TextFormat
+fullest = record {
+  format = record {
+    «mantissa_radix» = 32;
+    «exponent_base» = 2;
+    «exponent_radix» = 16;
+    «required_exponent_notation» = true;
+    «no_exponent_notation» = true;
+    «required_exponent_sign» = true;
+    «no_exponent_without_fraction» = true;
+  };
+  options = record {
+    «max_significant_digits» = 1200;
+    «min_significant_digits» = 1200;
+    «positive_exponent_break» = pos 2000;
+    «negative_exponent_break» = negsuc 1999;
+    «round_mode» = Truncate;
+    «trim_floats» = true;
+    exponent = 94;
+    «decimal_point» = 44;
+  };
+}
+
+abbrev recorded : String → TextFormat → List ℕ → Example
+recorded name G bytes = record { name = name; holds = sameBytes (recordOf G) bytes }
+
+unfoldable pub records : List Example
+records =
+    recorded "2/2, mark e" (inPair 2 2 101) record2
+    ∷ recorded "every field at its end" fullest (32 ∷ 2 ∷ 16 ∷ 1 ∷ 1 ∷ 1 ∷ 1 ∷ 1 ∷ 1 ∷ 176 ∷ 4 ∷ 176 ∷ 4 ∷ 208 ∷ 7 ∷ 48 ∷ 248 ∷ 44 ∷ 94 ∷ [])
     ∷ []
