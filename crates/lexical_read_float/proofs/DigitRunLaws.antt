@@ -14,10 +14,8 @@ use lib.Dec.{ltb, eqb}
 use lib.ListN.{length, drop, getD, drop-of-length-le}
 use lib.Seq.{drop-cons}
 use Rattle.lexical_util.specs.Digit.{digitValue, digitIn, readOn}
-use Rattle.lexical_util.proofs.DigitLaws.{byte-value}
-use Rattle.lexical_util.proofs.TableLaws.{tab, tab-at}
 use Rattle.lexical_reading.specs.Parse.{more, run}
-use Rattle.lexical_read_float.specs.Digits.{IsValue, AreValues, digitsFrom, endFrom, allZero}
+use Rattle.lexical_read_float.specs.Digits.{IsValue, digitsFrom, endFrom, allZero}
 
 -- ---- the digit of a radix that a byte is, by a number that tells its digit value
 module _ (radix x d : ℕ) (small : radix ≤ 32) (is : IsValue (digitValue x) d) where
@@ -32,20 +30,12 @@ module _ (radix x d : ℕ) (small : radix ≤ 32) (is : IsValue (digitValue x) d
     | no g ↦ rw (is .digit (lt-of-not-le g), le-ltb d radix h)
   ]
 
--- ---- the table of digit values, computed from their definition
-abbrev orNone : Option ℕ → ℕ
-orNone none = 255
-orNone (some d) = d
+-- ---- a number that tells a digit value, or that there is none
+pub tells-digit : (x d : ℕ) → digitValue x ≡ some d → d < 32 → IsValue (digitValue x) d
+tells-digit x d e h = record { digit = λ l. e; no-digit = λ l. absurd (omega arith) }
 
-entry-is : (x : ℕ) → IsValue (digitValue x) (orNone (digitValue x))
-entry-is x = go (digitValue x) (λ d e. byte-value x d e .1)
-  where
-    go : (v : Option ℕ) → ((d : ℕ) → v ≡ some d → d < 32) → IsValue v (orNone v)
-    go none h = record { digit = λ l. absurd (omega arith); no-digit = λ l. refl }
-    go (some d) h = record { digit = λ l. refl; no-digit = λ l. absurd (omega (arith, h d refl)) }
-
-pub values-follow : AreValues (tab (λ x. orNone (digitValue x)) 0 256)
-values-follow = record { at = λ x h. subst (IsValue (digitValue x)) (sym (tab-at (λ y. orNone (digitValue y)) 256 x h)) (entry-is x) }
+pub tells-none : (x d : ℕ) → digitValue x ≡ none → 32 ≤ d → IsValue (digitValue x) d
+tells-none x d e h = record { digit = λ l. absurd (omega arith); no-digit = λ l. e }
 
 pub cons-nil : (d : ℕ) (ds : List ℕ) → d ∷ ds ≡ [] → ⊥
 cons-nil d ds e = let z : _≡_ {A = ℕ} 0 1 = cc in omega arith

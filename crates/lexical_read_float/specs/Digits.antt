@@ -5,8 +5,7 @@ use mathlib.Core.Bool.{Bool, true, _&&_}
 use mathlib.Core.List.{List, [], _∷_}
 use mathlib.Core.Option.{Option, none, some}
 use lib.Dec.{eqb}
-use lib.ListN.{length, drop, getD}
-use Rattle.lexical_util.specs.Digit.{digitValue}
+use lib.ListN.{length, drop}
 use Rattle.lexical_reading.specs.Parse.{run}
 use Rattle.lexical_read_float.specs.Kept.{full, keepDigits}
 
@@ -14,10 +13,6 @@ use Rattle.lexical_read_float.specs.Kept.{full, keepDigits}
 pub record IsValue (v : Option ℕ) (d : ℕ) : Type 0 where
   pub digit : d < 32 → v ≡ some d
   pub no-digit : 32 ≤ d → v ≡ none
-
--- a table that tells the digit value of each byte
-pub record AreValues (table : List ℕ) : Type 0 where
-  pub at : (x : ℕ) → x < 256 → IsValue (digitValue x) (getD table x 0)
 
 -- the digits from place i on, and where they end
 abbrev pub digitsFrom : ℕ → List ℕ → ℕ → List ℕ

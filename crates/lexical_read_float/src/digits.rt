@@ -5,7 +5,7 @@ ghost use Prim.Native.Nat.{_*_, _≤_, min};
 ghost use lib.ListN.{length};
 ghost use Rattle.lexical_util.specs.Digit.{digitValue, digitsValue};
 ghost use Rattle.lexical_read_float.specs.Kept.{keepDigits};
-ghost use Rattle.lexical_read_float.specs.Digits.{IsValue, AreValues, allZero, digitsFrom, endFrom, Filled};
+ghost use Rattle.lexical_read_float.specs.Digits.{IsValue, allZero, digitsFrom, endFrom, Filled};
 use crate::kept::Kept;
 
 // Digits that went into the bits: where they end, and the bits.
@@ -32,32 +32,19 @@ pub(crate) struct ExponentDigits {
     pub magnitude: u32,
 }
 
-// The digit value of each byte, or 255 where it has none. A loop then tests one number, and no branch has to be guessed between figures and capitals.
-// The function that names it builds it on the stack, with two dozen stores: that is done once for a text, and the loops are lent it.
-pub(crate) const VALUES: [u8; 256] = *b"\
-    \xff\xff\xff\xff\xff\xff\xff\xff\xff\xff\xff\xff\xff\xff\xff\xff\
-    \xff\xff\xff\xff\xff\xff\xff\xff\xff\xff\xff\xff\xff\xff\xff\xff\
-    \xff\xff\xff\xff\xff\xff\xff\xff\xff\xff\xff\xff\xff\xff\xff\xff\
-    \x00\x01\x02\x03\x04\x05\x06\x07\x08\x09\xff\xff\xff\xff\xff\xff\
-    \xff\x0a\x0b\x0c\x0d\x0e\x0f\x10\x11\x12\x13\x14\x15\x16\x17\x18\
-    \x19\x1a\x1b\x1c\x1d\x1e\x1f\xff\xff\xff\xff\xff\xff\xff\xff\xff\
-    \xff\xff\xff\xff\xff\xff\xff\xff\xff\xff\xff\xff\xff\xff\xff\xff\
-    \xff\xff\xff\xff\xff\xff\xff\xff\xff\xff\xff\xff\xff\xff\xff\xff\
-    \xff\xff\xff\xff\xff\xff\xff\xff\xff\xff\xff\xff\xff\xff\xff\xff\
-    \xff\xff\xff\xff\xff\xff\xff\xff\xff\xff\xff\xff\xff\xff\xff\xff\
-    \xff\xff\xff\xff\xff\xff\xff\xff\xff\xff\xff\xff\xff\xff\xff\xff\
-    \xff\xff\xff\xff\xff\xff\xff\xff\xff\xff\xff\xff\xff\xff\xff\xff\
-    \xff\xff\xff\xff\xff\xff\xff\xff\xff\xff\xff\xff\xff\xff\xff\xff\
-    \xff\xff\xff\xff\xff\xff\xff\xff\xff\xff\xff\xff\xff\xff\xff\xff\
-    \xff\xff\xff\xff\xff\xff\xff\xff\xff\xff\xff\xff\xff\xff\xff\xff\
-    \xff\xff\xff\xff\xff\xff\xff\xff\xff\xff\xff\xff\xff\xff\xff\xff";
-
-// A byte's entry in the table of digit values.
-fn value_of(values: &[u8; 256], byte: u8) -> u8
-    requires { ⌜ AreValues (now values) ⌝ }
+// A byte's digit value, or 255 where it has none, so that a loop tests one number. Two matches of one range each, figures and then capitals: one match with both ranges branches between them.
+fn digit_or_none(byte: u8) -> u32
     ensures { λ r. ⌜ IsValue (digitValue byte) r ⌝ }
 {
-    values[byte as usize]
+    let value = byte as u32;
+    let figure = match byte {
+        b'0'..=b'9' => value - b'0' as u32,
+        _ => 255,
+    };
+    match byte {
+        b'A'..=b'V' => value - b'A' as u32 + 10,
+        _ => figure,
+    }
 }
 
 // A value of its own for `&&`, where what each side showed is not needed.
@@ -68,15 +55,8 @@ fn both(a: bool, b: bool) -> bool
 }
 
 // The digits from a place on that go into the bits: until these are full, or a byte is no digit.
-fn leading_digits(
-    values: &[u8; 256],
-    text: &[u8],
-    from: usize,
-    radix: u32,
-    b: u32,
-    start: u64,
-) -> LeadingDigits
-    requires { ⌜ AreValues (now values) × (from ≤ length (now text)) × (radix ≤ 32) × (b ≤ 5) ⌝ }
+fn leading_digits(text: &[u8], from: usize, radix: u32, b: u32, start: u64) -> LeadingDigits
+    requires { ⌜ (from ≤ length (now text)) × (radix ≤ 32) × (b ≤ 5) ⌝ }
     ensures { λ r. ⌜ Filled radix b (now (text .entry)) from start (r .end) (r .bits) ⌝ }
 {
     let mut bits = start;
@@ -85,8 +65,8 @@ fn leading_digits(
         if bits >= 0x0400_0000_0000_0000 {
             return LeadingDigits { end: i, bits };
         }
-        let digit = value_of(values, text[i]);
-        if digit as u32 >= radix {
+        let digit = digit_or_none(text[i]);
+        if digit >= radix {
             return LeadingDigits { end: i, bits };
         }
         bits = (bits << b) + digit as u64;
@@ -96,15 +76,15 @@ fn leading_digits(
 }
 
 // The digits from a place on, below full bits: only whether all are 0 matters, and the bits that any of them has tell that at the end.
-fn further_digits(values: &[u8; 256], text: &[u8], from: usize, radix: u32) -> FurtherDigits
-    requires { ⌜ AreValues (now values) × (from ≤ length (now text)) × (radix ≤ 32) ⌝ }
+fn further_digits(text: &[u8], from: usize, radix: u32) -> FurtherDigits
+    requires { ⌜ (from ≤ length (now text)) × (radix ≤ 32) ⌝ }
     ensures { λ r. ⌜ (r .end ≡ endFrom radix (now (text .entry)) from) × (r .clear ≡ allZero (digitsFrom radix (now (text .entry)) from)) × (r .end ≤ length (now (text .entry))) ⌝ }
 {
-    let mut seen: u8 = 0;
+    let mut seen: u32 = 0;
     let mut i = from;
     while i < text.len() {
-        let digit = value_of(values, text[i]);
-        if digit as u32 >= radix {
+        let digit = digit_or_none(text[i]);
+        if digit >= radix {
             return FurtherDigits {
                 end: i,
                 clear: seen == 0,
@@ -121,17 +101,16 @@ fn further_digits(values: &[u8; 256], text: &[u8], from: usize, radix: u32) -> F
 
 // The digits from a place on, behind those already kept.
 pub(crate) fn mantissa_digits(
-    values: &[u8; 256],
     text: &[u8],
     from: usize,
     radix: u32,
     b: u32,
     start: Kept,
 ) -> MantissaDigits
-    requires { ⌜ AreValues (now values) × (from ≤ length (now text)) × (length (now text) ≤ 4096) × (radix ≤ 32) × (b ≤ 5) × (start .below ≤ 5 * from) ⌝ }
+    requires { ⌜ (from ≤ length (now text)) × (length (now text) ≤ 4096) × (radix ≤ 32) × (b ≤ 5) × (start .below ≤ 5 * from) ⌝ }
     ensures { λ r. ⌜ (r .end ≡ endFrom radix (now (text .entry)) from) × (r .kept ≡ keepDigits b start (digitsFrom radix (now (text .entry)) from)) × (r .kept .below ≤ 5 * r .end) × (r .end ≤ length (now (text .entry))) ⌝ }
 {
-    let leading = leading_digits(values, text, from, radix, b, start.bits);
+    let leading = leading_digits(text, from, radix, b, start.bits);
     let end = leading.end;
     let bits = leading.bits;
     let below = start.below;
@@ -143,7 +122,7 @@ pub(crate) fn mantissa_digits(
             kept: Kept { bits, below, clear },
         };
     }
-    let further = further_digits(values, text, end, radix);
+    let further = further_digits(text, end, radix);
     let count = (further.end - end) as u32;
     let lower = below + b * count;
     MantissaDigits {
@@ -164,23 +143,18 @@ fn saturated(value: u32) -> u32
 }
 
 // The exponent digits from a place on. The sum saturates, so that no number of digits makes it wrap.
-pub(crate) fn exponent_digits(
-    values: &[u8; 256],
-    text: &[u8],
-    from: usize,
-    radix: u32,
-) -> ExponentDigits
-    requires { ⌜ AreValues (now values) × (from ≤ length (now text)) × (1 ≤ radix) × (radix ≤ 32) ⌝ }
+pub(crate) fn exponent_digits(text: &[u8], from: usize, radix: u32) -> ExponentDigits
+    requires { ⌜ (from ≤ length (now text)) × (1 ≤ radix) × (radix ≤ 32) ⌝ }
     ensures { λ r. ⌜ (r .end ≡ endFrom radix (now (text .entry)) from) × (r .magnitude ≡ min (digitsValue radix (digitsFrom radix (now (text .entry)) from)) 32768) × (r .end ≤ length (now (text .entry))) ⌝ }
 {
     let mut magnitude: u32 = 0;
     let mut i = from;
     while i < text.len() {
-        let digit = value_of(values, text[i]);
-        if digit as u32 >= radix {
+        let digit = digit_or_none(text[i]);
+        if digit >= radix {
             return ExponentDigits { end: i, magnitude };
         }
-        magnitude = saturated(magnitude * radix + digit as u32);
+        magnitude = saturated(magnitude * radix + digit);
         i += 1;
     }
     ExponentDigits { end: i, magnitude }

@@ -6,9 +6,7 @@ ghost use lib.ListN.{length, drop};
 ghost use Rattle.lexical_reading.specs.Shape.{Sign, exponent};
 ghost use Rattle.lexical_reading.specs.Parse.{exponentDigits, signedExponent, parseTail, parse};
 ghost use Rattle.lexical_reading.specs.Read.{isNegative};
-ghost use Rattle.lexical_read_float.specs.Digits.{AreValues};
 ghost use Rattle.lexical_read_float.specs.Scan.{grammar, beginsWith, withFraction, scannedTail, scannedNumber, scannedShape, IsBounded};
-use crate::digits::VALUES;
 use crate::digits::exponent_digits;
 use crate::digits::mantissa_digits;
 use crate::kept::Kept;
@@ -38,18 +36,12 @@ pub(crate) enum Scanned {
 }
 
 // One or more exponent digits behind a place, and nothing behind them.
-fn scan_exponent_digits(
-    values: &[u8; 256],
-    text: &[u8],
-    before: usize,
-    radix: u32,
-    negative: bool,
-) -> ScannedTail
-    requires { ⌜ AreValues (now values) × (before < length (now text)) × (1 ≤ radix) × (radix ≤ 32) ⌝ }
+fn scan_exponent_digits(text: &[u8], before: usize, radix: u32, negative: bool) -> ScannedTail
+    requires { ⌜ (before < length (now text)) × (1 ≤ radix) × (radix ≤ 32) ⌝ }
     ensures { λ r. ⌜ ((s : Sign) → isNegative (exponent s []) ≡ negative → r ≡ scannedTail (now (text .entry)) radix (exponentDigits radix s (drop (before + 1) (now (text .entry))))) ⌝ }
 {
     let from = before + 1;
-    let digits = exponent_digits(values, text, from, radix);
+    let digits = exponent_digits(text, from, radix);
     let end = digits.end;
     if end == from {
         return ScannedTail::Wrong(from);
@@ -65,8 +57,8 @@ fn scan_exponent_digits(
 }
 
 // Behind the mark at a place: a "+" or "-" or neither, then the digits.
-fn scan_exponent(values: &[u8; 256], text: &[u8], at: usize, radix: u32) -> ScannedTail
-    requires { ⌜ AreValues (now values) × (at < length (now text)) × (1 ≤ radix) × (radix ≤ 32) ⌝ }
+fn scan_exponent(text: &[u8], at: usize, radix: u32) -> ScannedTail
+    requires { ⌜ (at < length (now text)) × (1 ≤ radix) × (radix ≤ 32) ⌝ }
     ensures { λ r. ⌜ r ≡ scannedTail (now (text .entry)) radix (signedExponent radix (drop (at + 1) (now (text .entry)))) ⌝ }
 {
     let next = at + 1;
@@ -75,17 +67,17 @@ fn scan_exponent(values: &[u8; 256], text: &[u8], at: usize, radix: u32) -> Scan
     }
     let byte = text[next];
     if byte == b'+' {
-        return scan_exponent_digits(values, text, next, radix, false);
+        return scan_exponent_digits(text, next, radix, false);
     }
     if byte == b'-' {
-        return scan_exponent_digits(values, text, next, radix, true);
+        return scan_exponent_digits(text, next, radix, true);
     }
-    scan_exponent_digits(values, text, at, radix, false)
+    scan_exponent_digits(text, at, radix, false)
 }
 
 // Behind the mantissa: nothing, or the mark and an exponent.
-fn scan_tail(values: &[u8; 256], text: &[u8], from: usize, radix: u32, mark: u8) -> ScannedTail
-    requires { ⌜ AreValues (now values) × (from ≤ length (now text)) × (1 ≤ radix) × (radix ≤ 32) ⌝ }
+fn scan_tail(text: &[u8], from: usize, radix: u32, mark: u8) -> ScannedTail
+    requires { ⌜ (from ≤ length (now text)) × (1 ≤ radix) × (radix ≤ 32) ⌝ }
     ensures { λ r. ⌜ ((mantissaRadix point : ℕ) → r ≡ scannedTail (now (text .entry)) radix (parseTail (grammar mantissaRadix radix point mark) (drop from (now (text .entry))))) ⌝ }
 {
     if from == text.len() {
@@ -98,7 +90,7 @@ fn scan_tail(values: &[u8; 256], text: &[u8], from: usize, radix: u32, mark: u8)
     if text[from] != mark {
         return ScannedTail::Wrong(from);
     }
-    scan_exponent(values, text, from, radix)
+    scan_exponent(text, from, radix)
 }
 
 // The mantissa's digits with what stands behind them.
@@ -134,22 +126,14 @@ struct Mantissa {
 }
 
 // The digits in front of a place, with those behind the point if it stands there.
-fn with_fraction(
-    values: &[u8; 256],
-    text: &[u8],
-    end: usize,
-    radix: u32,
-    b: u32,
-    point: u8,
-    kept: Kept,
-) -> Mantissa
-    requires { ⌜ AreValues (now values) × (end ≤ length (now text)) × (length (now text) ≤ 4096) × (radix ≤ 32) × (b ≤ 5) × (kept .below ≤ 5 * end) ⌝ }
+fn with_fraction(text: &[u8], end: usize, radix: u32, b: u32, point: u8, kept: Kept) -> Mantissa
+    requires { ⌜ (end ≤ length (now text)) × (length (now text) ≤ 4096) × (radix ≤ 32) × (b ≤ 5) × (kept .below ≤ 5 * end) ⌝ }
     ensures { λ r. ⌜ r ≡ withFraction (now (text .entry)) radix b kept end (beginsWith point (drop end (now (text .entry)))) ⌝ }
     ensures room { λ r. ⌜ (r .end ≤ length (now (text .entry))) × (r .kept .below ≤ 5 * r .end) × (r .fraction ≤ 4096) ⌝ }
 {
     if stands_at(text, end, point) {
         let from = end + 1;
-        let digits = mantissa_digits(values, text, from, radix, b, kept);
+        let digits = mantissa_digits(text, from, radix, b, kept);
         let all = digits.kept;
         let fraction = digits.end - from;
         return Mantissa {
@@ -166,37 +150,6 @@ fn with_fraction(
 }
 
 // A text's numbers, or the first place at which no text has this byte. One call looks at what stands behind the mantissa, with a point in it or without, so that the compiler puts it in place.
-fn scan_by(
-    values: &[u8; 256],
-    text: &[u8],
-    radix: u32,
-    b: u32,
-    exponent_radix: u32,
-    point: u8,
-    mark: u8,
-) -> Scanned
-    requires { ⌜ AreValues (now values) × (length (now text) ≤ 4096) × (radix ≤ 32) × (b ≤ 5) × (1 ≤ «exponent_radix») × («exponent_radix» ≤ 32) ⌝ }
-    ensures { λ r. ⌜ r ≡ scannedShape (now (text .entry)) b «exponent_radix» (parse (grammar radix «exponent_radix» point mark) (now (text .entry))) ⌝ }
-    ensures bounded { λ r. ⌜ IsBounded r ⌝ }
-{
-    let start = Kept {
-        bits: 0,
-        below: 0,
-        clear: true,
-    };
-    let whole = mantissa_digits(values, text, 0, radix, b, start);
-    let end = whole.end;
-    let kept = whole.kept;
-    if end == 0 {
-        return Scanned::Wrong(0);
-    }
-    let mantissa = with_fraction(values, text, end, radix, b, point, kept);
-    let all = mantissa.kept;
-    let tail = scan_tail(values, text, mantissa.end, exponent_radix, mark);
-    with_tail(all, mantissa.fraction, tail)
-}
-
-// The same, with the digit values that all its loops share.
 pub(crate) fn scan(
     text: &[u8],
     radix: u32,
@@ -209,5 +162,19 @@ pub(crate) fn scan(
     ensures { λ r. ⌜ r ≡ scannedShape (now (text .entry)) b «exponent_radix» (parse (grammar radix «exponent_radix» point mark) (now (text .entry))) ⌝ }
     ensures bounded { λ r. ⌜ IsBounded r ⌝ }
 {
-    scan_by(&VALUES, text, radix, b, exponent_radix, point, mark)
+    let start = Kept {
+        bits: 0,
+        below: 0,
+        clear: true,
+    };
+    let whole = mantissa_digits(text, 0, radix, b, start);
+    let end = whole.end;
+    let kept = whole.kept;
+    if end == 0 {
+        return Scanned::Wrong(0);
+    }
+    let mantissa = with_fraction(text, end, radix, b, point, kept);
+    let all = mantissa.kept;
+    let tail = scan_tail(text, mantissa.end, exponent_radix, mark);
+    with_tail(all, mantissa.fraction, tail)
 }

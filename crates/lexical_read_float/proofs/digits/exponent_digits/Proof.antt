@@ -13,12 +13,12 @@ use Rattle.lexical_read_float.proofs.digits.exponent_digits.Tie as tie
 use Rattle.lexical_read_float.proofs.digits.exponent_digits.Statement.{statement}
 
 abbrev Inv-loop : tie.InvT-loop
-Inv-loop values text from radix magnitude₀ i₀ magnitude i =
+Inv-loop text from radix magnitude₀ i₀ magnitude i =
     (i ≤ length text) × (magnitude ≤ 32768) × (endFrom radix text i ≡ endFrom radix text from)
     × (min (readOn radix magnitude (digitsFrom radix text i)) 32768 ≡ min (digitsValue radix (digitsFrom radix text from)) 32768)
 
 abbrev μ-loop : tie.MeasureT-loop
-μ-loop values text from radix magnitude₀ i₀ magnitude i = length text - i
+μ-loop text from radix magnitude₀ i₀ magnitude i = length text - i
 
 -- no digit stands at the loop's place
 stopped : (c : tie.At-loop Inv-loop μ-loop) → digitsFrom (c .before .before .args .radix) (c .before .before .args .text .now) (c .loop .i) ≡ []
@@ -28,28 +28,22 @@ stopped : (c : tie.At-loop Inv-loop μ-loop) → digitsFrom (c .before .before .
 stopped c e = let v = c .loop .inv in (end-here _ _ _ _ (v .2) e, sum-done _ _ _ _ (v .3) e (v .1), v .0)
 
 product : (c : tie.At-loop Inv-loop μ-loop) → c .loop .magnitude * c .before .before .args .radix ≤ 1048576
-product c = mul-le-mul (c .loop .inv .1) (c .before .before .pre .3)
+product c = mul-le-mul (c .loop .inv .1) (c .before .before .pre .2)
 
 loop-holds : tie.Need-loop-holds Inv-loop μ-loop
 loop-holds c = (omega arith, omega arith, refl, refl)
 
-shared-slice-read-value-of : tie.Need-shared-slice-read-value-of Inv-loop μ-loop
-shared-slice-read-value-of c = search needs
+shared-slice-read-digit-or-none : tie.Need-shared-slice-read-digit-or-none Inv-loop μ-loop
+shared-slice-read-digit-or-none c = search needs
 
-value-of-requires : tie.Need-value-of-requires Inv-loop μ-loop
-value-of-requires c κs = c .before .before .before .before .pre .0
-
-cast-if1 : tie.Need-cast-if1 Inv-loop μ-loop
-cast-if1 c = search needs
+digit-or-none-requires : tie.Need-digit-or-none-requires Inv-loop μ-loop
+digit-or-none-requires c κs = search needs
 
 returns : tie.Need-returns Inv-loop μ-loop
-returns c = let d = c .before in let l = d .before .before in stopped (l .before) (from-stop _ _ _ (l .loop-test .taken) (digit-above _ _ _ (l .before .before .before .pre .3) (d .value-of .ensures) (c .if1 .taken)))
+returns c = let d = c .before in let l = d .before .before in stopped (l .before) (from-stop _ _ _ (l .loop-test .taken) (digit-above _ _ _ (l .before .before .before .pre .2) (d .digit-or-none .ensures) (c .if1 .taken)))
 
 mul-saturated : tie.Need-mul-saturated Inv-loop μ-loop
 mul-saturated c = omega (arith, product (c .before .before .before .before))
-
-cast-saturated : tie.Need-cast-saturated Inv-loop μ-loop
-cast-saturated c = search needs
 
 add-saturated : tie.Need-add-saturated Inv-loop μ-loop
 add-saturated c = omega (arith, product (c .before .before .before .before))
@@ -69,9 +63,9 @@ loop-again c =
     let l = d .before .before in
     let at = l .before in
     let a = at .before .before .args in
-    let more : digitsFrom (a .radix) (a .text .now) (at .loop .i) ≡ d .value-of .result ∷ digitsFrom (a .radix) (a .text .now) (at .loop .i + 1) =
-    from-more _ _ (at .loop .i) _ (l .loop-test .taken) (digit-below _ _ _ (at .before .before .pre .3) (d .value-of .ensures) (c .before .if1 .left)) in
-    (omega arith, omega (arith, c .saturated .ensures), end-on _ _ _ _ (at .loop .inv .2) _ more, sum-on _ _ _ _ (at .loop .inv .3) _ _ _ (at .before .before .pre .2) more (c .saturated .ensures))
+    let more : digitsFrom (a .radix) (a .text .now) (at .loop .i) ≡ d .digit-or-none .result ∷ digitsFrom (a .radix) (a .text .now) (at .loop .i + 1) =
+    from-more _ _ (at .loop .i) _ (l .loop-test .taken) (digit-below _ _ _ (at .before .before .pre .2) (d .digit-or-none .ensures) (c .before .if1 .left)) in
+    (omega arith, omega (arith, c .saturated .ensures), end-on _ _ _ _ (at .loop .inv .2) _ more, sum-on _ _ _ _ (at .loop .inv .3) _ _ _ (at .before .before .pre .1) more (c .saturated .ensures))
 
 returns-2 : tie.Need-returns-2 Inv-loop μ-loop
 returns-2 c = stopped (c .before) (from-end _ _ _ (c .loop-test .left))
@@ -83,12 +77,10 @@ exponent-digits-spec =
     Inv-loop
     μ-loop
     loop-holds
-    shared-slice-read-value-of
-    value-of-requires
-    cast-if1
+    shared-slice-read-digit-or-none
+    digit-or-none-requires
     returns
     mul-saturated
-    cast-saturated
     add-saturated
     saturated-requires
     add-i

@@ -13,11 +13,11 @@ use Rattle.lexical_read_float.proofs.digits.further_digits.Statement.{s
 use Rattle.lexical_read_float.proofs.digits.further_digits.Tie as tie
 
 abbrev Inv-loop : tie.InvT-loop
-Inv-loop values text from radix seen₀ i₀ seen i =
+Inv-loop text from radix seen₀ i₀ seen i =
     (i ≤ length text) × (endFrom radix text i ≡ endFrom radix text from) × ((eqb seen 0 && allZero (digitsFrom radix text i)) ≡ allZero (digitsFrom radix text from))
 
 abbrev μ-loop : tie.MeasureT-loop
-μ-loop values text from radix seen₀ i₀ seen i = length text - i
+μ-loop text from radix seen₀ i₀ seen i = length text - i
 
 -- no digit stands at the loop's place
 stopped : (c : tie.At-loop Inv-loop μ-loop) → digitsFrom (c .before .before .args .radix) (c .before .before .args .text .now) (c .loop .i) ≡ []
@@ -28,17 +28,14 @@ stopped c e = let v = c .loop .inv in (end-here _ _ _ _ (v .1) e, zeros-done (c 
 loop-holds : tie.Need-loop-holds Inv-loop μ-loop
 loop-holds c = (omega arith, refl, refl)
 
-shared-slice-read-value-of : tie.Need-shared-slice-read-value-of Inv-loop μ-loop
-shared-slice-read-value-of c = search needs
+shared-slice-read-digit-or-none : tie.Need-shared-slice-read-digit-or-none Inv-loop μ-loop
+shared-slice-read-digit-or-none c = search needs
 
-value-of-requires : tie.Need-value-of-requires Inv-loop μ-loop
-value-of-requires c κs = c .before .before .before .before .pre .0
-
-cast-if1 : tie.Need-cast-if1 Inv-loop μ-loop
-cast-if1 c = search needs
+digit-or-none-requires : tie.Need-digit-or-none-requires Inv-loop μ-loop
+digit-or-none-requires c κs = search needs
 
 returns : tie.Need-returns Inv-loop μ-loop
-returns c = let d = c .before in let l = d .before .before in stopped (l .before) (from-stop _ _ _ (l .loop-test .taken) (digit-above _ _ _ (l .before .before .before .pre .2) (d .value-of .ensures) (c .if1 .taken)))
+returns c = let d = c .before in let l = d .before .before in stopped (l .before) (from-stop _ _ _ (l .loop-test .taken) (digit-above _ _ _ (l .before .before .before .pre .1) (d .digit-or-none .ensures) (c .if1 .taken)))
 
 add-i : tie.Need-add-i Inv-loop μ-loop
 add-i c = search needs
@@ -52,8 +49,8 @@ loop-again c =
     let l = d .before .before in
     let at = l .before in
     let a = at .before .before .args in
-    let more : digitsFrom (a .radix) (a .text .now) (at .loop .i) ≡ d .value-of .result ∷ digitsFrom (a .radix) (a .text .now) (at .loop .i + 1) =
-    from-more _ _ (at .loop .i) _ (l .loop-test .taken) (digit-below _ _ _ (at .before .before .pre .2) (d .value-of .ensures) (c .if1 .left)) in
+    let more : digitsFrom (a .radix) (a .text .now) (at .loop .i) ≡ d .digit-or-none .result ∷ digitsFrom (a .radix) (a .text .now) (at .loop .i + 1) =
+    from-more _ _ (at .loop .i) _ (l .loop-test .taken) (digit-below _ _ _ (at .before .before .pre .1) (d .digit-or-none .ensures) (c .if1 .left)) in
     (omega arith, end-on _ _ _ _ (at .loop .inv .1) _ more, zeros-on (at .loop .seen) _ _ _ _ (at .loop .inv .2) more)
 
 returns-2 : tie.Need-returns-2 Inv-loop μ-loop
@@ -66,9 +63,8 @@ further-digits-spec =
     Inv-loop
     μ-loop
     loop-holds
-    shared-slice-read-value-of
-    value-of-requires
-    cast-if1
+    shared-slice-read-digit-or-none
+    digit-or-none-requires
     returns
     add-i
     loop-less

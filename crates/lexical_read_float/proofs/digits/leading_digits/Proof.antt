@@ -15,13 +15,13 @@ use Rattle.lexical_read_float.proofs.digits.leading_digits.Statement.{s
 use Rattle.lexical_read_float.proofs.digits.leading_digits.Tie as tie
 
 abbrev Inv-loop : tie.InvT-loop
-Inv-loop values text from radix b start bits₀ i₀ bits i =
+Inv-loop text from radix b start bits₀ i₀ bits i =
     (from ≤ i) × (i ≤ length text) × (endFrom radix text i ≡ endFrom radix text from)
     × ((below : ℕ) (clear : Bool)
     → keepDigits b (record { bits = bits; below = below; clear = clear }) (digitsFrom radix text i) ≡ keepDigits b (record { bits = start; below = below; clear = clear }) (digitsFrom radix text from))
 
 abbrev μ-loop : tie.MeasureT-loop
-μ-loop values text from radix b start bits₀ i₀ bits i = length text - i
+μ-loop text from radix b start bits₀ i₀ bits i = length text - i
 
 -- the loop stops here: the bits are full, or no digit stands here
 stopped : (c : tie.At-loop Inv-loop μ-loop) → (c .loop .bits < full → digitsFrom (c .before .before .args .radix) (c .before .before .args .text .now) (c .loop .i) ≡ [])
@@ -34,17 +34,14 @@ loop-holds c = (omega arith, omega arith, refl, λ below clear. refl)
 returns : tie.Need-returns Inv-loop μ-loop
 returns c = stopped (c .before .before) (λ l. absurd (not-le-of-lt l (c .if1 .taken)))
 
-shared-slice-read-value-of : tie.Need-shared-slice-read-value-of Inv-loop μ-loop
-shared-slice-read-value-of c = search needs
+shared-slice-read-digit-or-none : tie.Need-shared-slice-read-digit-or-none Inv-loop μ-loop
+shared-slice-read-digit-or-none c = search needs
 
-value-of-requires : tie.Need-value-of-requires Inv-loop μ-loop
-value-of-requires c κs = c .before .before .before .before .before .pre .0
-
-cast-if2 : tie.Need-cast-if2 Inv-loop μ-loop
-cast-if2 c = search needs
+digit-or-none-requires : tie.Need-digit-or-none-requires Inv-loop μ-loop
+digit-or-none-requires c κs = search needs
 
 returns-2 : tie.Need-returns-2 Inv-loop μ-loop
-returns-2 c = let d = c .before in let l = d .before .before .before in stopped (l .before) (λ h. from-stop _ _ _ (l .loop-test .taken) (digit-above _ _ _ (l .before .before .before .pre .2) (d .value-of .ensures) (c .if2 .taken)))
+returns-2 c = let d = c .before in let l = d .before .before .before in stopped (l .before) (λ h. from-stop _ _ _ (l .loop-test .taken) (digit-above _ _ _ (l .before .before .before .pre .1) (d .digit-or-none .ensures) (c .if2 .taken)))
 
 shl-bits : tie.Need-shl-bits Inv-loop μ-loop
 shl-bits c = search needs
@@ -53,7 +50,7 @@ cast-bits : tie.Need-cast-bits Inv-loop μ-loop
 cast-bits c = search needs
 
 add-bits : tie.Need-add-bits Inv-loop μ-loop
-add-bits c = let f = c .before .before .before in let at = f .before .before in omega (arith, shift-is (at .loop .bits) (at .before .before .args .b) (f .if1 .left) (at .before .before .pre .3), shift-small (at .loop .bits) (at .before .before .args .b) (f .if1 .left) (at .before .before .pre .3))
+add-bits c = let f = c .before .before .before in let at = f .before .before in omega (arith, shift-is (at .loop .bits) (at .before .before .args .b) (f .if1 .left) (at .before .before .pre .2), shift-small (at .loop .bits) (at .before .before .args .b) (f .if1 .left) (at .before .before .pre .2))
 
 add-i : tie.Need-add-i Inv-loop μ-loop
 add-i c = search needs
@@ -67,12 +64,12 @@ loop-again c =
     let f = d .before .before in
     let at = f .before .before in
     let a = at .before .before .args in
-    let more : digitsFrom (a .radix) (a .text .now) (at .loop .i) ≡ d .value-of .result ∷ digitsFrom (a .radix) (a .text .now) (at .loop .i + 1) =
-    from-more _ _ (at .loop .i) _ (f .before .loop-test .taken) (digit-below _ _ _ (at .before .before .pre .2) (d .value-of .ensures) (c .if2 .left)) in (
+    let more : digitsFrom (a .radix) (a .text .now) (at .loop .i) ≡ d .digit-or-none .result ∷ digitsFrom (a .radix) (a .text .now) (at .loop .i + 1) =
+    from-more _ _ (at .loop .i) _ (f .before .loop-test .taken) (digit-below _ _ _ (at .before .before .pre .1) (d .digit-or-none .ensures) (c .if2 .left)) in (
       omega arith,
       omega arith,
       end-on _ _ _ _ (at .loop .inv .2) _ more,
-      λ below clear. kept-on _ (at .loop .bits) below _ _ clear _ _ (f .if1 .left) (ap (λ (x : ℕ). x + d .value-of .result) (shift-is (at .loop .bits) (a .b) (f .if1 .left) (at .before .before .pre .3))) more ∙ at .loop .inv .3 below clear,
+      λ below clear. kept-on _ (at .loop .bits) below _ _ clear _ _ (f .if1 .left) (ap (λ (x : ℕ). x + d .digit-or-none .result) (shift-is (at .loop .bits) (a .b) (f .if1 .left) (at .before .before .pre .2))) more ∙ at .loop .inv .3 below clear,
     )
 
 returns-3 : tie.Need-returns-3 Inv-loop μ-loop
@@ -86,9 +83,8 @@ leading-digits-spec =
     μ-loop
     loop-holds
     returns
-    shared-slice-read-value-of
-    value-of-requires
-    cast-if2
+    shared-slice-read-digit-or-none
+    digit-or-none-requires
     returns-2
     shl-bits
     cast-bits

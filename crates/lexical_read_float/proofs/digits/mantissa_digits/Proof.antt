@@ -11,10 +11,10 @@ few : (c : tie.After-further-digits)
     a .start .below + a .b * (c .further-digits .result .end - c .before .before .leading-digits .result .end) ≤ 5 * c .further-digits .result .end)
 few c =
     let s = c .before .before .before .before in
-    joined-below _ _ _ _ (s .args .start) _ _ (c .before .before .leading-digits .ensures) _ (c .further-digits .ensures .0) (s .pre .4) (s .pre .5)
+    joined-below _ _ _ _ (s .args .start) _ _ (c .before .before .leading-digits .ensures) _ (c .further-digits .ensures .0) (s .pre .3) (s .pre .4)
 
 leading-digits-requires : tie.Need-leading-digits-requires
-leading-digits-requires c κs = (c .before .pre .0, omega arith, omega arith, omega arith)
+leading-digits-requires c κs = (omega arith, omega arith, omega arith)
 
 returns : tie.Need-returns
 returns c =
@@ -25,7 +25,7 @@ returns c =
     (ended _ _ _ _ (s .args .start) _ _ filled (c .if1 .taken), all-kept _ _ _ _ (s .args .start) _ _ filled (c .if1 .taken), omega arith, filled .within)
 
 further-digits-requires : tie.Need-further-digits-requires
-further-digits-requires c κs = (c .before .before .before .pre .0, omega arith, omega arith)
+further-digits-requires c κs = (omega arith, omega arith)
 
 sub-count : tie.Need-sub-count
 sub-count c = search needs

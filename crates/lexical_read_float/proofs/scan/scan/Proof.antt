@@ -1,16 +1,41 @@
--- `lexical_read_float::scan::scan` meets its contract: the table that it lends follows its rule. Assumes nothing.
+-- `lexical_read_float::scan::scan` meets its contract: no digit in front, or a mantissa and what stands behind it. Assumes nothing.
+use mathlib.Core.Path.{_∙_}
 use native.Mathlib.Omega.{arith}
-use Rattle.lexical_util.specs.Digit.{digitValue}
-use Rattle.lexical_read_float.proofs.DigitRunLaws.{values-follow}
+use borrow.Author.Needs.{needs}
+use Rattle.lexical_reading.specs.Shape.{Grammar}
+use Rattle.lexical_read_float.specs.Scan.{grammar}
+use Rattle.lexical_read_float.proofs.ScanLaws.{text-empty, text-mantissa, number-bounded}
 use Rattle.lexical_read_float.proofs.scan.scan.Statement.{statement}
 use Rattle.lexical_read_float.proofs.scan.scan.Tie as tie
 
-scan-by-requires : tie.Need-scan-by-requires
-unfolding digitValue
-scan-by-requires c κs = (values-follow, omega arith, omega arith, omega arith, omega arith, omega arith)
+abbrev grammarIn : tie.Start → Grammar
+grammarIn c = grammar (c .args .radix) (c .args .exponent-radix) (c .args .point) (c .args .mark)
+
+mantissa-digits-requires : tie.Need-mantissa-digits-requires
+mantissa-digits-requires c κs = (omega arith, omega arith, omega arith, omega arith, omega arith)
 
 returns : tie.Need-returns
-returns c = c .scan-by .ensures
+returns c = let m = c .before .before in (text-empty (m .before .before .args .text .now) (m .before .before .args .b) (grammarIn (m .before .before)) (m .mantissa-digits .result .end) (m .mantissa-digits .ensures .0) (omega arith), tt)
+
+with-fraction-requires : tie.Need-with-fraction-requires
+with-fraction-requires c κs = let m = c .before .before in (omega arith, omega arith, omega arith, omega arith, m .mantissa-digits .ensures .2)
+
+scan-tail-requires : tie.Need-scan-tail-requires
+scan-tail-requires c κs = (omega arith, omega arith, omega arith)
+
+with-tail-requires : tie.Need-with-tail-requires
+with-tail-requires c κs = search needs
+
+returns-2 : tie.Need-returns-2
+returns-2 c =
+    let τ = c .before in
+    let f = τ .before .before in
+    let e = f .before in
+    let m = e .before .before in
+    let s = m .before .before in (
+      c .with-tail .ensures ∙ text-mantissa (s .args .text .now) (s .args .b) (grammarIn s) _ (m .mantissa-digits .ensures .0) _ (e .if1 .left) (m .mantissa-digits .ensures .1) (f .with-fraction .result) _ (τ .scan-tail .ensures (s .args .radix) (s .args .point)) (m .mantissa-digits .ensures .3) (f .with-fraction .ensures .0),
+      number-bounded (f .with-fraction .result .kept) (f .with-fraction .result .fraction) (τ .scan-tail .result) _ (omega (arith, f .with-fraction .ensures .1)) (f .with-fraction .ensures .1 .2) (c .with-tail .ensures),
+    )
 
 pub scan-spec : {M : Type 1} → statement M
-scan-spec = tie.close (tie.spec scan-by-requires returns)
+scan-spec = tie.close (tie.spec mantissa-digits-requires returns with-fraction-requires scan-tail-requires with-tail-requires returns-2)

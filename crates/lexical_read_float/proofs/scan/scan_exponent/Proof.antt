@@ -19,19 +19,19 @@ shared-slice-read-byte : tie.Need-shared-slice-read-byte
 shared-slice-read-byte c = search needs
 
 scan-exponent-digits-requires : tie.Need-scan-exponent-digits-requires
-scan-exponent-digits-requires c κs = (c .before .before .before .before .pre .0, omega arith, omega arith, omega arith)
+scan-exponent-digits-requires c κs = (omega arith, omega arith, omega arith)
 
 returns-2 : tie.Need-returns-2
 returns-2 c = let a = c .before .before .before .before .before .args in c .scan-exponent-digits .ensures plus refl ∙ ap (scannedTail (a .text .now) (a .radix)) (sym (sign-plus (a .text .now) (a .radix) (a .at + 1) (omega arith) (c .before .if2 .taken)))
 
 scan-exponent-digits-requires-2 : tie.Need-scan-exponent-digits-requires-2
-scan-exponent-digits-requires-2 c κs = (c .before .before .before .before .before .pre .0, omega arith, omega arith, omega arith)
+scan-exponent-digits-requires-2 c κs = (omega arith, omega arith, omega arith)
 
 returns-3 : tie.Need-returns-3
 returns-3 c = let a = c .before .before .before .before .before .before .args in c .scan-exponent-digits2 .ensures minus refl ∙ ap (scannedTail (a .text .now) (a .radix)) (sym (sign-minus (a .text .now) (a .radix) (a .at + 1) (omega arith) (c .before .if3 .taken)))
 
 scan-exponent-digits-requires-3 : tie.Need-scan-exponent-digits-requires-3
-scan-exponent-digits-requires-3 c κs = (c .before .before .before .before .before .pre .0, omega arith, omega arith, omega arith)
+scan-exponent-digits-requires-3 c κs = (omega arith, omega arith, omega arith)
 
 returns-4 : tie.Need-returns-4
 returns-4 c = let a = c .before .before .before .before .before .before .args in c .scan-exponent-digits3 .ensures unsigned refl ∙ ap (scannedTail (a .text .now) (a .radix)) (sym (sign-none (a .text .now) (a .radix) (a .at + 1) (omega arith) (c .before .before .if2 .left) (c .before .if3 .left)))

@@ -10,7 +10,7 @@ add-from : tie.Need-add-from
 add-from c = search needs
 
 exponent-digits-requires : tie.Need-exponent-digits-requires
-exponent-digits-requires c κs = (c .before .pre .0, omega arith, omega arith, omega arith)
+exponent-digits-requires c κs = (omega arith, omega arith, omega arith)
 
 returns : tie.Need-returns
 returns c = λ s e. digits-none _ _ s _ (omega arith) (sym (c .before .exponent-digits .ensures .0) ∙ c .if1 .taken)

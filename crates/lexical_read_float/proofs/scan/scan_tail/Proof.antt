@@ -17,7 +17,7 @@ returns-2 : tie.Need-returns-2
 returns-2 c = λ r p. let a = c .before .before .before .before .args in tail-wrong (a .text .now) (grammar r (a .radix) p (a .mark)) (a .from) (omega arith) (c .if2 .taken)
 
 scan-exponent-requires : tie.Need-scan-exponent-requires
-scan-exponent-requires c κs = (c .before .before .before .before .pre .0, omega arith, omega arith, omega arith)
+scan-exponent-requires c κs = (omega arith, omega arith, omega arith)
 
 returns-3 : tie.Need-returns-3
 returns-3 c = λ r p. let a = c .before .before .before .before .before .args in c .scan-exponent .ensures ∙ ap (scannedTail (a .text .now) (a .radix)) (sym (tail-marked (a .text .now) (grammar r (a .radix) p (a .mark)) (a .from) (omega arith) (c .before .if2 .left)))

@@ -11,7 +11,7 @@ use Rattle.lexical_read_float.proofs.scan.with_fraction.Tie as tie
 
 -- the point stands inside the text
 inside : (c : tie.Then1) → c .before .before .before .args .end < length (c .before .before .before .args .text .now)
-inside c = begins-inside _ _ _ (c .before .before .before .pre .1) (sym (c .before .stands-at .ensures) ∙ c .if1 .taken)
+inside c = begins-inside _ _ _ (c .before .before .before .pre .0) (sym (c .before .stands-at .ensures) ∙ c .if1 .taken)
 
 stands-at-requires : tie.Need-stands-at-requires
 stands-at-requires c κs = search needs
@@ -20,7 +20,7 @@ add-from : tie.Need-add-from
 add-from c = search needs
 
 mantissa-digits-requires : tie.Need-mantissa-digits-requires
-mantissa-digits-requires c κs = let s = c .before .before .before in let h = inside c in (s .pre .0, omega arith, omega arith, omega arith, omega arith, omega arith)
+mantissa-digits-requires c κs = let s = c .before .before .before in let h = inside c in (omega arith, omega arith, omega arith, omega arith, omega arith)
 
 sub-fraction : tie.Need-sub-fraction
 sub-fraction c = search needs
@@ -37,7 +37,7 @@ returns-2 : tie.Need-returns-2
 returns-2 c =
     let s = c .before .before .before in
     let a = s .args in
-    (ap (withFraction (a .text .now) (a .radix) (a .b) (a .kept) (a .end)) (sym (sym (c .before .stands-at .ensures) ∙ c .if1 .left)), (omega arith, s .pre .5, omega arith))
+    (ap (withFraction (a .text .now) (a .radix) (a .b) (a .kept) (a .end)) (sym (sym (c .before .stands-at .ensures) ∙ c .if1 .left)), (omega arith, s .pre .4, omega arith))
 
 pub with-fraction-spec : {M : Type 1} → statement M
 with-fraction-spec = tie.close (tie.spec stands-at-requires add-from mantissa-digits-requires sub-fraction returns returns-2)
