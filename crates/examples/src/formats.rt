@@ -48,9 +48,9 @@ fn print_writing(answer: WritingCheck) {
         WritingCheck::Passed(f) => {
             print_bits(f.b, f.c);
             print::text(b" breaks ");
-            print::signed(f.negative_exponent_break);
+            print::signed(f.negative_exponent_break.0);
             print::text(b" ");
-            print::signed(f.positive_exponent_break);
+            print::signed(f.positive_exponent_break.0);
         }
     }
 }

@@ -99,9 +99,9 @@ unfoldable pub writingFormat : NumberFormat → Options → Answer Pair
 writingFormat F o = checkedPair (readingChecks F o ++ writingChecks F o) (pairOf F)
 
 -- ---- what the calls answer
--- what the writer's later steps need: b, c, and the breaks with none absent
+-- what the writer's later steps need: b, c, and the breaks, in bits, with none absent
 abbrev pub settled : Options → Pair → CheckedFormat
-settled o row = record { b = row .b; c = row .c; «negative_exponent_break» = lowBreak o; «positive_exponent_break» = highBreak o }
+settled o row = record { b = row .b; c = row .c; «negative_exponent_break» = record { 0 = lowBreak o }; «positive_exponent_break» = record { 0 = highBreak o } }
 
 unfoldable pub checkedFormat : NumberFormat → Options → Answer CheckedFormat
 checkedFormat F o = andThen (writingFormat F o) (λ row. done (settled o row))

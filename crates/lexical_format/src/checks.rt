@@ -8,8 +8,10 @@ use crate::format::NumberFormat;
 use crate::format::Pair;
 use crate::format::find_pair;
 use crate::options::Options;
+use lexical_util::BitExponent;
 use lexical_util::DigitValue;
 use lexical_util::Refusal;
+use lexical_util::is_below;
 
 // What the reader's check answers: the pair's row, or the first refusal.
 pub enum ReadingCheck {
@@ -17,12 +19,12 @@ pub enum ReadingCheck {
     Refused(Refusal),
 }
 
-// A format as the writer's later steps need it: b, c, and the breaks, none absent.
+// A format as the writer's later steps need it: b, c, and the breaks, none absent, in bits.
 pub struct CheckedFormat {
     pub b: u32,
     pub c: u32,
-    pub negative_exponent_break: i32,
-    pub positive_exponent_break: i32,
+    pub negative_exponent_break: BitExponent,
+    pub positive_exponent_break: BitExponent,
 }
 
 // What the writer's check answers: what its later steps need, or the first refusal.
@@ -60,18 +62,21 @@ fn bad_counts(options: Options) -> bool
     least > 1200 || most > 1200 || least != 0 && most != 0 && least > most
 }
 
-// A break; 0 means absent.
-fn or_absent(absent: i32, value: i32) -> i32
-    ensures { λ r. ⌜ r ≡ orAbsent absent value ⌝ }
+// A break, which is in bits; 0 means absent.
+fn or_absent(absent: i32, value: i32) -> BitExponent
+    ensures { λ r. ⌜ r .0 ≡ orAbsent absent value ⌝ }
 {
-    if value == 0 { absent } else { value }
+    if value == 0 {
+        return BitExponent(absent);
+    }
+    BitExponent(value)
 }
 
 // Out of the range from least to most: of a break in the check, and of s in a layout.
-pub fn outside(least: i32, most: i32, value: i32) -> bool
-    ensures { λ r. ⌜ r ≡ outside least most value ⌝ }
+pub fn outside(least: BitExponent, most: BitExponent, value: BitExponent) -> bool
+    ensures { λ r. ⌜ r ≡ outside (least .0) (most .0) (value .0) ⌝ }
 {
-    value < least || value > most
+    is_below(value, least) || is_below(most, value)
 }
 
 // 1, 2, 3, else the pair's row. It takes the five numbers that these look at, in registers: both checks call it, and a format and options handed on in memory would have to be stored first and loaded again.
@@ -127,7 +132,9 @@ fn check_writing(format: NumberFormat, options: Options, row: Pair) -> WritingCh
     }
     let low = or_absent(-5, options.negative_exponent_break);
     let high = or_absent(9, options.positive_exponent_break);
-    if outside(-2000, -1, low) || outside(1, 2000, high) {
+    if outside(BitExponent(-2000), BitExponent(-1), low)
+        || outside(BitExponent(1), BitExponent(2000), high)
+    {
         return WritingCheck::Refused(Refusal {
             number: 6,
             place: 0,

@@ -7,14 +7,14 @@ use lib.Dec.{ltb}
 use lib.IntN.{ℤ, pos, negsuc, natAbs}
 use lib.ListN.{length, take, drop, replicate, length-map}
 use Rattle.lexical_util.specs.Digit.{digitByte}
-use Rattle.lexical_util.specs.Exponent.{scale, place}
+use Rattle.lexical_util.specs.Exponent.{scale, place, modulo}
 use Rattle.lexical_digits.specs.Digits.{digits, numeral}
 use Rattle.lexical_format.specs.declared.format.Pair.{Pair}
 use Rattle.lexical_format.specs.declared.format.NumberFormat.{NumberFormat}
 use Rattle.lexical_format.specs.declared.options.Options.{Options}
 use Rattle.lexical_text.specs.declared.layout.Layout.{Layout}
 use Rattle.lexical_text.specs.declared.layout.Layout.the-variants.{Scientific, Negative, Positive}
-use Rattle.lexical_text.specs.Value.{modulo, exactDigits}
+use Rattle.lexical_text.specs.Value.{exactDigits}
 use Rattle.lexical_text.specs.Text.{zeros, point, least, trim, layoutOf, scientific, exponentSign, exponentText, negative, positive, laidOut, digitsSoFar, text}
 use Rattle.lexical_reading.specs.Shape.{Grammar, Sign, unsigned, plus, minus, Tail, absent, exponent, Shape, signBytes, tailBytes, print}
 use Rattle.lexical_reading.specs.Parse.{withTail}

@@ -14,7 +14,7 @@ use lib.Seq.{take-all}
 use lib.Pow.{pow-add}
 use lib.Ieee.{up, down}
 use Rattle.lexical_util.specs.Digit.{digitsValue}
-use Rattle.lexical_util.specs.Exponent.{scale, place, power}
+use Rattle.lexical_util.specs.Exponent.{scale, place, power, modulo}
 use Rattle.lexical_util.proofs.RadixLaws.{radix-bounds}
 use Rattle.lexical_digits.specs.Digits.{digits}
 use Rattle.lexical_digits.proofs.DigitsLaws.{pow-mul, radix-above, digits-value, count-pos, length-numeral}
@@ -23,7 +23,7 @@ use Rattle.lexical_format.specs.declared.format.NumberFormat.{NumberFormat}
 use Rattle.lexical_format.specs.declared.options.Options.{Options}
 use Rattle.lexical_format.proofs.FormatLaws.{power-whole, Readable}
 use Rattle.lexical_text.specs.declared.layout.Layout.the-variants.{Scientific, Negative, Positive}
-use Rattle.lexical_text.specs.Value.{modulo, exactDigits}
+use Rattle.lexical_text.specs.Value.{exactDigits}
 use Rattle.lexical_text.specs.Text.{least, trim, isScientific, layoutOf, digitsSoFar}
 use Rattle.lexical_text.proofs.WriteLaws.{first-place}
 use Rattle.lexical_reading.specs.Shape.{unsigned, plus, Tail, absent, exponent, Shape}

@@ -10,7 +10,7 @@ use lib.IntN.{ℤ, natAbs}
 use lib.ListN.{length, take, drop}
 use lib.Pow.{pow-pos}
 use Rattle.lexical_util.specs.Digit.{AreDigits}
-use Rattle.lexical_util.specs.Exponent.{scale, place}
+use Rattle.lexical_util.specs.Exponent.{scale, place, modulo}
 use Rattle.lexical_util.proofs.RadixLaws.{radix-bounds}
 use Rattle.lexical_digits.specs.Digits.{digits}
 use Rattle.lexical_digits.proofs.DigitsLaws.{radix-above, digits-below, count-pos}
@@ -20,7 +20,7 @@ use Rattle.lexical_format.specs.declared.options.Options.{Options}
 use Rattle.lexical_format.proofs.FormatLaws.{Readable}
 use Rattle.lexical_text.specs.declared.layout.Layout.{Layout}
 use Rattle.lexical_text.specs.declared.layout.Layout.the-variants.{Scientific, Negative, Positive}
-use Rattle.lexical_text.specs.Value.{modulo, exactDigits}
+use Rattle.lexical_text.specs.Value.{exactDigits}
 use Rattle.lexical_text.specs.Text.{least, trim, layoutOf, digitsSoFar}
 use Rattle.lexical_reading.specs.Shape.{Grammar, Tail, absent, Some, TailFits, FractionFits, WellFormed}
 use Rattle.lexical_reading.specs.Parse.{withTail}

@@ -1,28 +1,14 @@
 -- Integers: floor and remainder by b, which natural number lies between two, and an exponent of 16 bits. Assumes nothing.
 use Prim.Native.Nat.{ℕ, zero, suc, _+_, _-_, _*_, _/_, _%_, _≤_, _<_}
 use mathlib.Core.Path.{_≡_, refl, sym, ap, ap₂, _∙_}
-use mathlib.Core.Bool.{true, false}
 use native.Mathlib.Nat.{div-add-mod, mod-lt, mul-comm, mul-add, mul-suc, mul-zero, mul-pos, mul-add-div, add-comm, le-trans, le-of-eq, lt-of-lt-of-le, lt-of-not-le, div-lt-iff-lt-mul, le-div-iff-mul-le, div-eq-of-lt, zero-lt-suc}
 use native.Mathlib.Decide.{decLe}
 use native.Mathlib.Omega.{arith}
-use borrow.Author.Tests.{lt-ltb, le-ltb, ltb-true}
-use lib.IntN.{ℤ, pos, negsuc, negℤ, natAbs, predℤ, _+ℤ_, _-ℤ_, _*ℤ_, +ℤ-assoc, +ℤ-comm, +ℤ-idr, +ℤ-negℤ-cancel, -ℤ-+ℤ-cancel, *ℤ-comm, predℤ-*ℤ, -ℤ-one}
-use lib.Signed.{shrZ, ltZ}
-use Rattle.lexical_text.specs.Value.{modulo}
+use borrow.Author.Tests.{lt-ltb, le-ltb}
+use lib.IntN.{ℤ, pos, negsuc, negℤ, predℤ, _+ℤ_, _-ℤ_, _*ℤ_, +ℤ-assoc, +ℤ-comm, +ℤ-idr, +ℤ-negℤ-cancel, -ℤ-+ℤ-cancel, *ℤ-comm, predℤ-*ℤ, -ℤ-one}
+use lib.Signed.{shrZ}
+use Rattle.lexical_util.specs.Exponent.{modulo}
 use Rattle.lexical_text.specs.Range.{Between}
-
-pub modulo-lt : (e : ℤ) (b : ℕ) → 0 < b → modulo e b < b
-modulo-lt (pos k) b B = mod-lt k B
-modulo-lt (negsuc k) b B = let h = mod-lt k B in omega arith
-
--- by the sign, from the magnitude
-pub modulo-above : (e : ℤ) (b : ℕ) → ltZ e (pos 0) ≡ false → natAbs e % b ≡ modulo e b
-modulo-above (pos k) b h = refl
-modulo-above (negsuc k) b h = cc
-
-pub modulo-below : (e : ℤ) (b : ℕ) → ltZ e (pos 0) ≡ true → (0 < natAbs e) × (b - 1 - (natAbs e - 1) % b ≡ modulo e b)
-modulo-below (pos k) b h = let l = ltb-true k 0 h in absurd (omega arith)
-modulo-below (negsuc k) b h = let z : suc k - 1 ≡ k = omega arith in (zero-lt-suc k, rw z (omega arith))
 
 -- b times the floor, and the remainder
 pub floor-modulo : (b : ℕ) (s : ℤ) → 0 < b → pos b *ℤ shrZ s b +ℤ pos (modulo s b) ≡ s

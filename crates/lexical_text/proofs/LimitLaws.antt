@@ -9,12 +9,12 @@ use lib.Dec.{T, isLe, isEq, eqb, leb→le, nleb→lt, eqb→eq, eqb-refl}
 use lib.IntN.{ℤ, pos, negsuc, _+ℤ_, _-ℤ_, +ℤ-assoc, +ℤ-negℤ-cancel}
 use lib.Ieee.{size, nearest}
 use lib.Ieee.Fits.{nearest-le}
-use Rattle.lexical_util.specs.Exponent.{scale, place}
+use Rattle.lexical_util.specs.Exponent.{scale, place, modulo}
 use Rattle.lexical_util.proofs.DifferenceLaws.{nat-less, nat-more, gap-above}
 use Rattle.lexical_util.proofs.ExponentLaws.{scale-is}
 use Rattle.lexical_format.specs.declared.options.RoundMode.{RoundMode}
 use Rattle.lexical_format.specs.declared.options.RoundMode.the-variants.{Round, Truncate}
-use Rattle.lexical_text.specs.Value.{normal, modulo}
+use Rattle.lexical_text.specs.Value.{normal}
 use Rattle.lexical_text.specs.Limit.{unitExponent, rounded, multipleOf, limited}
 use Rattle.lexical_text.proofs.Integers.{floor-modulo, times-below, move}
 use Rattle.lexical_text.proofs.ValueLaws.{normal-more}

@@ -10,13 +10,13 @@ use lib.ListN.{length, getD}
 use lib.Pow.{pow-add, pow-pos, shl-lt}
 use lib.Ieee.{size}
 use lib.Ieee.Digits.{size-lt, size-le, size-reaches}
-use Rattle.lexical_util.specs.Exponent.{scale, place}
-use Rattle.lexical_util.proofs.ExponentLaws.{scale-is}
+use Rattle.lexical_util.specs.Exponent.{scale, place, modulo}
+use Rattle.lexical_util.proofs.ExponentLaws.{scale-is, modulo-lt}
 use Rattle.lexical_util.proofs.PowerLaws.{size-more, size-pos}
 use Rattle.lexical_digits.specs.Digits.{digits, numeral}
 use Rattle.lexical_digits.proofs.DigitsLaws.{radix-above, count-bits, count-lt, first-pos, length-numeral}
-use Rattle.lexical_text.specs.Value.{Value, normal, modulo, exactDigits}
-use Rattle.lexical_text.proofs.Integers.{modulo-lt, floor-modulo, floor-add}
+use Rattle.lexical_text.specs.Value.{Value, normal, exactDigits}
+use Rattle.lexical_text.proofs.Integers.{floor-modulo, floor-add}
 
 -- ---- significant bits
 pub size-shift : (m t : ℕ) → 0 < m → size (m * 2 ^ t) ≡ size m + t

@@ -19,7 +19,8 @@ use Rattle.lexical_format.specs.declared.format.NumberFormat.{NumberFormat}
 use Rattle.lexical_format.specs.declared.options.Options.{Options}
 use Rattle.lexical_format.specs.Format.{writingFormat}
 use Rattle.lexical_format.proofs.FormatLaws.{power-whole, Writable, writable}
-use Rattle.lexical_text.specs.Value.{modulo, exactDigits}
+use Rattle.lexical_util.specs.Exponent.{modulo}
+use Rattle.lexical_text.specs.Value.{exactDigits}
 use Rattle.lexical_text.specs.Write.{limitedText, floatText, writeText}
 use Rattle.lexical_text.specs.Limit.{limited}
 use Rattle.lexical_text.specs.Claims.{FirstPlace, FirstDigit, LastDigit, LongestText, WholePower}

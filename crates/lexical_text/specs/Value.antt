@@ -1,9 +1,10 @@
 -- A value m * 2 ^ e, and its digits D in the radix 2 ^ b: document 01, "Layout". Definitions only.
-use Prim.Native.Nat.{ℕ, zero, suc, _-_, _*_, _/_, _%_, _^_}
+use Prim.Native.Nat.{ℕ, zero, suc, _*_, _/_, _^_}
 use mathlib.Core.List.{List}
 use lib.Count.{trailingZeros}
-use lib.IntN.{ℤ, pos, negsuc, _+ℤ_}
+use lib.IntN.{ℤ, pos, _+ℤ_}
 use lib.Ieee.{size}
+use Rattle.lexical_util.specs.Exponent.{modulo}
 use Rattle.lexical_digits.specs.Digits.{numeral}
 
 -- a whole number times a power of two
@@ -15,11 +16,6 @@ pub record Value : Type 0 where
 unfoldable pub normal : ℕ → ℤ → Value
 normal zero e = record { m = 0; e = pos 0 }
 normal (suc n) e = let t = trailingZeros (size (suc n)) (suc n) in record { m = suc n / 2 ^ t; e = e +ℤ pos t }
-
--- e mod b: e less b times floor (e / b)
-abbrev pub modulo : ℤ → ℕ → ℕ
-modulo (pos k) b = k % b
-modulo (negsuc k) b = b - suc (k % b)
 
 -- D of a value in normal form: the exact digits from the first nonzero one to the last nonzero one, "0" for zero.
 -- The last one's place is floor (e / b), so D spells m * 2 ^ (e mod b); as m is odd, D ends in no zero.

@@ -1,8 +1,8 @@
--- The laws of the three exponents: s by significant bits, a signed number's magnitude, division rounded up, p as floor (s / b), and p * b / c. Assumes nothing.
-use Prim.Native.Nat.{ℕ, zero, suc, _+_, _-_, _*_, _/_, _^_, _≤_, _<_}
+-- The laws of the three exponents: s by significant bits, a signed number's magnitude, division rounded up, p as floor (s / b), p * b / c, and e mod b. Assumes nothing.
+use Prim.Native.Nat.{ℕ, zero, suc, _+_, _-_, _*_, _/_, _%_, _^_, _≤_, _<_}
 use mathlib.Core.Path.{_≡_, refl, sym, ap, _∙_}
 use mathlib.Core.Bool.{true, false}
-use native.Mathlib.Nat.{zero-mul, one-mul, mul-one, mul-comm, mul-le-mul-right, mul-lt-mul-of-pos-right, suc-mul, mul-le-mul, mul-div-le, lt-mul-div-succ, div-zero, div-mul-le-self, lt-div-mul-add, div-eq-of-lt-le, div-lt-iff-lt-mul, div-mul-cancel, dvd-mul-left, dvd-mul-left-of-dvd, lt-of-le-of-lt}
+use native.Mathlib.Nat.{zero-mul, one-mul, mul-one, mul-comm, mul-le-mul-right, mul-lt-mul-of-pos-right, suc-mul, mul-le-mul, mul-div-le, lt-mul-div-succ, div-zero, div-mul-le-self, lt-div-mul-add, div-eq-of-lt-le, div-lt-iff-lt-mul, div-mul-cancel, dvd-mul-left, dvd-mul-left-of-dvd, lt-of-le-of-lt, mod-lt, zero-lt-suc}
 use native.Mathlib.Numerals.{add-one}
 use native.Mathlib.Omega.{arith}
 use borrow.Author.Tests.{ltb-true, lt-ltb, le-ltb}
@@ -17,7 +17,7 @@ use lib.Ieee.Digits.{size-lt, size-le, size-reaches}
 use mir.Syntax.{w16, w32, w64}
 use mir.Val.{Fits, SFits, toZ, ofZ}
 use mir.Facts.{toZ-ofZ, toZ-pos}
-use Rattle.lexical_util.specs.Exponent.{scale, LeadingBit, place, isNegative, power}
+use Rattle.lexical_util.specs.Exponent.{scale, LeadingBit, place, isNegative, power, modulo}
 use Rattle.lexical_util.proofs.DifferenceLaws.{by-larger, widened}
 use Rattle.lexical_util.proofs.PowerLaws.{size-pos, leading-size}
 
@@ -176,3 +176,24 @@ power-none b c p e = rw e (sym (div-zero (natAbs p * b)))
 -- whole where c divides b
 pub power-exact : (b c : ℕ) (p : ℤ) → b / c * c ≡ b → power b c p * c ≡ natAbs p * b
 power-exact b c p h = div-mul-cancel c (dvd-mul-left-of-dvd c (rw h at (dvd-mul-left c (b / c))) (natAbs p))
+
+-- ---- e mod b
+pub modulo-lt : (e : ℤ) (b : ℕ) → 0 < b → modulo e b < b
+modulo-lt (pos k) b B = mod-lt k B
+modulo-lt (negsuc k) b B = let h = mod-lt k B in omega arith
+
+pub shifted : (e : ℤ) (b r : ℕ) → r ≡ modulo e b → (r ≡ modulo e b) × (0 < b → r < b)
+shifted e b r h = (h, λ B. rw h (modulo-lt e b B))
+
+-- by the sign, from the magnitude
+pub modulo-above : (e : ℤ) (b : ℕ) → ltZ e (pos 0) ≡ false → natAbs e % b ≡ modulo e b
+modulo-above (pos k) b h = refl
+modulo-above (negsuc k) b h = cc
+
+pub modulo-below : (e : ℤ) (b : ℕ) → ltZ e (pos 0) ≡ true → (0 < natAbs e) × (b - 1 - (natAbs e - 1) % b ≡ modulo e b)
+modulo-below (pos k) b h = let l = ltb-true k 0 h in absurd (omega arith)
+modulo-below (negsuc k) b h = let z : suc k - 1 ≡ k = omega arith in (zero-lt-suc k, rw z (omega arith))
+
+-- digits of no bits, which no radix has
+pub modulo-none-below : (e : ℤ) (b : ℕ) → ltZ e (pos 0) ≡ true → b ≡ 0 → 0 ≡ modulo e b
+modulo-none-below e b h n = omega (arith, modulo-below e b h .1)

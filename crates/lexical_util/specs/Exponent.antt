@@ -1,5 +1,5 @@
 -- Significant bits and the three exponents of a value: document 01, "Float parts" and the s of "Layout". Definitions only.
-use Prim.Native.Nat.{ℕ, zero, suc, _-_, _*_, _/_, _≤_, _<_}
+use Prim.Native.Nat.{ℕ, zero, suc, _+_, _-_, _*_, _/_, _%_, _≤_, _<_}
 use mathlib.Core.Bool.{Bool, true, false}
 use lib.IntN.{ℤ, pos, negsuc, natAbs, _+ℤ_}
 use lib.Signed.{shrZ}
@@ -32,3 +32,17 @@ isNegative (negsuc n) = true
 -- p * b / c, in powers of the base 2 ^ c: its magnitude; its sign is p's. It is whole, since c divides b in every pair.
 abbrev pub power : ℕ → ℕ → ℤ → ℕ
 power b c p = natAbs p * b / c
+
+-- ---- what a layout counts
+-- e mod b: e less b times floor (e / b)
+abbrev pub modulo : ℤ → ℕ → ℕ
+modulo (pos k) b = k % b
+modulo (negsuc k) b = b - suc (k % b)
+
+-- negative layout: -p-1 zeros behind the point, by p's magnitude
+abbrev pub zerosBehindPoint : ℤ → ℕ
+zerosBehindPoint p = natAbs p - 1
+
+-- positive layout: p+1 places before the point
+abbrev pub placesBeforePoint : ℤ → ℕ
+placesBeforePoint p = natAbs p + 1

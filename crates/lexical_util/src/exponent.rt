@@ -1,10 +1,10 @@
-// Derived from `significant_bits`, `fast_ceildiv` and `scale_sci_exp` of lexical-write-float/src/binary.rs and hex.rs, changed: each exponent has a type of its own, and nothing wraps.
+// Derived from `significant_bits`, `fast_ceildiv`, `calculate_shl` and `scale_sci_exp` of lexical-write-float/src/binary.rs and hex.rs, changed: each exponent has a type of its own, and nothing wraps.
 // Document 01: "An exponent in bits, one in digits and one in powers of the base are three separate counts". Only the functions here turn one into another.
 ghost use mathlib.Core.Path.{_≡_};
-ghost use Prim.Native.Nat.{_+_, _-_, _*_, _/_, _^_, _≤_, _<_};
+ghost use Prim.Native.Nat.{_+_, _-_, _*_, _/_, _%_, _^_, _≤_, _<_};
 ghost use lib.IntN.{pos, natAbs, _+ℤ_, _*ℤ_};
-ghost use lib.Signed.{_≤ℤ_, _<ℤ_};
-ghost use Rattle.lexical_util.specs.Exponent.{significantBits, scale, LeadingBit, place, isNegative, power};
+ghost use lib.Signed.{ltZ, _≤ℤ_, _<ℤ_};
+ghost use Rattle.lexical_util.specs.Exponent.{significantBits, scale, LeadingBit, place, isNegative, power, modulo, zerosBehindPoint, placesBeforePoint};
 
 // A value mantissa * 2^exponent. Every float's exponent fits an i16.
 pub struct Magnitude {
@@ -110,4 +110,52 @@ pub fn base_exponent(p: DigitExponent, bits_per_digit: u32, bits_per_base: u32) 
     }
     let bits = unsigned_abs(digits) as u64 * bits_per_digit as u64;
     BaseExponent(negative, quotient(bits, bits_per_base))
+}
+
+// What a division leaves: all of the value where the divisor is 0.
+fn remainder(value: u32, divisor: u32) -> u32
+    ensures { λ r. ⌜ (r ≡ value % divisor) × (0 < divisor → r < divisor) ⌝ }
+{
+    value - divisor * quotient(value as u64, divisor) as u32
+}
+
+// e mod b: by how many bits a mantissa is shifted up so that its exponent is a whole number of digits. No radix has digits of no bits; there the definition has 0 for a negative e, and else e.
+pub fn calculate_shl(exponent: BitExponent, bits_per_digit: u32) -> u32
+    ensures { λ r. ⌜ r ≡ modulo (exponent .0) «bits_per_digit» ⌝ }
+    ensures below { λ r. ⌜ (0 < «bits_per_digit» → r < «bits_per_digit») ⌝ }
+{
+    let e = exponent.0;
+    let magnitude = unsigned_abs(e);
+    if e < 0 {
+        if bits_per_digit == 0 {
+            return 0;
+        }
+        // The remainder of -1 - e, counted from the other end.
+        let last = bits_per_digit - 1;
+        let rest = remainder(magnitude - 1, bits_per_digit);
+        return last - rest;
+    }
+    remainder(magnitude, bits_per_digit)
+}
+
+// The zeros between the point and the first digit of a value below 1: of |p| places behind the point the last is that digit's.
+pub fn zeros_behind_point(p: DigitExponent) -> usize
+    ensures { λ r. ⌜ r ≡ zerosBehindPoint (p .0) ⌝ }
+{
+    let places = unsigned_abs(p.0) as usize;
+    if places == 0 { 0 } else { places - 1 }
+}
+
+// The places before the point of a value from 1 on, the one at p and all below it.
+pub fn places_before_point(p: DigitExponent) -> usize
+    ensures { λ r. ⌜ r ≡ placesBeforePoint (p .0) ⌝ }
+{
+    unsigned_abs(p.0) as usize + 1
+}
+
+// Whether an exponent is below another, both in bits.
+pub fn is_below(exponent: BitExponent, other: BitExponent) -> bool
+    ensures { λ r. ⌜ r ≡ ltZ (exponent .0) (other .0) ⌝ }
+{
+    exponent.0 < other.0
 }

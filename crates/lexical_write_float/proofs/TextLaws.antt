@@ -30,8 +30,8 @@ pub record Known (F : NumberFormat) (o : Options) (c : CheckedFormat) : Type 0 w
   pub power-radix : isRadix (F .«exponent_radix») ≡ true
   pub few-least : least F o ≤ 1200
   pub few-most : o .«max_significant_digits» ≤ 1200
-  pub low : c .«negative_exponent_break» ≡ lowBreak o
-  pub high : c .«positive_exponent_break» ≡ highBreak o
+  pub low : c .«negative_exponent_break» .0 ≡ lowBreak o
+  pub high : c .«positive_exponent_break» .0 ≡ highBreak o
 
 pub known : (F : NumberFormat) (o : Options) (c : CheckedFormat) → Passed F o c → Known F o c
 known F o c P = rw (P .is-settled) at-row

@@ -1,7 +1,8 @@
 // Derived from lexical-write-float/src/binary.rs, changed: the unit of a digit limit is aligned with the digits; a value comes back in normal form, so that a carry needs no count of its own; and a layout answers a plan, which is measured before it is written.
 ghost use mathlib.Core.Path.{_≡_};
-ghost use Prim.Native.Nat.{ℕ, _+_, _-_, _*_, _%_, _^_, _≤_, _<_};
-ghost use Rattle.lexical_text.specs.Value.{modulo, normal};
+ghost use Prim.Native.Nat.{ℕ, _+_, _-_, _*_, _^_, _≤_, _<_};
+ghost use Rattle.lexical_util.specs.Exponent.{modulo};
+ghost use Rattle.lexical_text.specs.Value.{normal};
 ghost use Rattle.lexical_text.specs.Limit.{rounded, limited};
 ghost use Rattle.lexical_text.specs.Range.{Between};
 ghost use Rattle.lexical_write_float.specs.Code.{ofMagnitude, IsPlan};
@@ -16,32 +17,10 @@ use lexical_format::RoundMode;
 use lexical_util::BitExponent;
 use lexical_util::DigitExponent;
 use lexical_util::Magnitude;
-use lexical_util::quotient;
+use lexical_util::calculate_shl;
 use lexical_util::sci_exp;
 use lexical_util::significant_bits;
-use lexical_util::unsigned_abs;
-
-fn remainder(value: u32, divisor: u32) -> u32
-    requires { ⌜ 0 < divisor ⌝ }
-    ensures { λ r. ⌜ (r ≡ value % divisor) × (r < divisor) ⌝ }
-{
-    value - divisor * quotient(value as u64, divisor) as u32
-}
-
-// e mod b: by how many bits a mantissa is shifted up so that its exponent is a whole number of digits.
-pub(crate) fn calculate_shl(exponent: i32, bits_per_digit: u32) -> u32
-    requires { ⌜ (0 < «bits_per_digit») × («bits_per_digit» ≤ 5) ⌝ }
-    ensures { λ r. ⌜ (r ≡ modulo exponent «bits_per_digit») × (r < «bits_per_digit») ⌝ }
-{
-    let magnitude = unsigned_abs(exponent);
-    if exponent < 0 {
-        // The remainder of -1 - exponent, counted from the other end.
-        let last = bits_per_digit - 1;
-        let rest = remainder(magnitude - 1, bits_per_digit);
-        return last - rest;
-    }
-    remainder(magnitude, bits_per_digit)
-}
+use lexical_util::zeros_behind_point;
 
 // The exponent of a mantissa that lost so many low bits.
 fn raised(exponent: i16, bits: u32) -> i16
@@ -100,7 +79,7 @@ fn kept_bits(s: BitExponent, bits_per_digit: u32, digits: u32) -> u32
     requires { ⌜ (0 < «bits_per_digit») × («bits_per_digit» ≤ 5) × (0 < digits) × (digits ≤ 1200) ⌝ }
     ensures { λ r. ⌜ r ≡ «bits_per_digit» * (digits - 1) + modulo (s .0) «bits_per_digit» ⌝ }
 {
-    let first = calculate_shl(s.0, bits_per_digit);
+    let first = calculate_shl(s, bits_per_digit);
     bits_per_digit * (digits - 1) + first
 }
 
@@ -145,13 +124,11 @@ pub(crate) fn write_float_negative_exponent(
     requires { ⌜ (natAbs (p .0) ≤ 1074) × (options .«min_significant_digits» ≤ 1200) ⌝ }
     ensures { λ r. ⌜ ((F : NumberFormat) → IsPlan (point F options) count (λ (D : List ℕ). negative F options D (p .0)) r) ⌝ }
 {
-    // Of |p| places after the point the last is D's first digit.
-    let gap = missing_digits(lexical_util::unsigned_abs(p.0), 1);
     Plan {
         leading: 0,
         filled: 1,
         point: true,
-        gap,
+        gap: zeros_behind_point(p),
         padding: missing_digits(options.min_significant_digits, count),
     }
 }

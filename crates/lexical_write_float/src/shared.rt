@@ -15,6 +15,7 @@ use lexical_format::NumberFormat;
 use lexical_text::Layout;
 use lexical_util::BaseExponent;
 use lexical_util::BitExponent;
+use lexical_util::is_below;
 
 // How many zeros fill `count` digits up to the least count.
 pub(crate) fn missing_digits(least: u32, count: usize) -> usize
@@ -26,7 +27,7 @@ pub(crate) fn missing_digits(least: u32, count: usize) -> usize
 
 // Scientific if not forbidden and (required, or s below the low break, or above the high one). The breaks are in bits, as s is.
 fn is_scientific(format: NumberFormat, checked: CheckedFormat, s: BitExponent) -> bool
-    ensures { λ r. ⌜ ((o : Options) → checked .«negative_exponent_break» ≡ lowBreak o → checked .«positive_exponent_break» ≡ highBreak o → r ≡ isScientific format o (s .0)) ⌝ }
+    ensures { λ r. ⌜ ((o : Options) → checked .«negative_exponent_break» .0 ≡ lowBreak o → checked .«positive_exponent_break» .0 ≡ highBreak o → r ≡ isScientific format o (s .0)) ⌝ }
 {
     if format.no_exponent_notation {
         return false;
@@ -34,22 +35,19 @@ fn is_scientific(format: NumberFormat, checked: CheckedFormat, s: BitExponent) -
     if format.required_exponent_notation {
         return true;
     }
-    lexical_format::outside(
-        checked.negative_exponent_break,
-        checked.positive_exponent_break,
-        s.0,
-    )
+    let low = checked.negative_exponent_break;
+    let high = checked.positive_exponent_break;
+    lexical_format::outside(low, high, s)
 }
 
 // The layout of a text, in place of the macro `write_float!`.
 pub(crate) fn choose_layout(format: NumberFormat, checked: CheckedFormat, s: BitExponent) -> Layout
-    ensures { λ r. ⌜ ((o : Options) → checked .«negative_exponent_break» ≡ lowBreak o → checked .«positive_exponent_break» ≡ highBreak o → r ≡ layoutOf format o (s .0)) ⌝ }
+    ensures { λ r. ⌜ ((o : Options) → checked .«negative_exponent_break» .0 ≡ lowBreak o → checked .«positive_exponent_break» .0 ≡ highBreak o → r ≡ layoutOf format o (s .0)) ⌝ }
 {
     if is_scientific(format, checked, s) {
         return Layout::Scientific;
     }
-    let scale = s.0;
-    if scale < 0 {
+    if is_below(s, BitExponent(0)) {
         return Layout::Negative;
     }
     Layout::Positive

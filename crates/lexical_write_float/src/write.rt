@@ -12,7 +12,6 @@ ghost use Rattle.lexical_text.specs.Text.{point, least, digitsSoFar, text};
 ghost use Rattle.lexical_text.specs.Range.{Ranged};
 ghost use Rattle.lexical_write_float.specs.Code.{FloatParts, Passed, rowOf, Counted, digitsOf, IsPlaced, IsPlan, bodyText, magnitudeText, partsText, askedByParts, OfFloat};
 ghost use Rattle.lexical_text.specs.Write.{writeText, NoLonger, NeverRefused};
-use crate::binary::calculate_shl;
 use crate::binary::normalized;
 use crate::binary::truncate_and_round;
 use crate::binary::write_float_negative_exponent;
@@ -36,16 +35,17 @@ use lexical_util::Magnitude;
 use lexical_util::Refusal;
 use lexical_util::Written;
 use lexical_util::base_exponent;
+use lexical_util::calculate_shl;
 use lexical_util::digit_exponent;
+use lexical_util::places_before_point;
 use lexical_util::sci_exp;
-use lexical_util::unsigned_abs;
 
 // D of a value: the mantissa is shifted up by e mod b, and what is left of e is a whole number of digits.
 fn digits_of(value: Magnitude, bits_per_digit: u32) -> Digits
     requires { ⌜ (0 < «bits_per_digit») × («bits_per_digit» ≤ 5) × (value .mantissa < 2 ^ 54) ⌝ }
     ensures { λ r. ⌜ (digitsOf r ≡ exactDigits «bits_per_digit» (value .mantissa) (value .exponent)) × Counted r ⌝ }
 {
-    let shl = calculate_shl(value.exponent as i32, bits_per_digit);
+    let shl = calculate_shl(BitExponent(value.exponent as i32), bits_per_digit);
     let shifted = value.mantissa << shl;
     Digits {
         value: shifted,
@@ -107,7 +107,7 @@ fn plan_of(
         Layout::Scientific => write_float_scientific(count, format, options),
         Layout::Negative => write_float_negative_exponent(count, p, options),
         Layout::Positive => {
-            let places = unsigned_abs(p.0) as usize + 1;
+            let places = places_before_point(p);
             write_float_positive_exponent(count, places, so_far, options)
         }
     }

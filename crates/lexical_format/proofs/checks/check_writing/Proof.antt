@@ -4,8 +4,6 @@ use mathlib.Core.Bool.{false, _&&_}
 use mathlib.Core.Logic.{⊎-elim}
 use borrow.Author.Needs.{needs}
 use lib.IntN.{pos, negsuc}
-use mir.Syntax.{w32}
-use mir.Val.{toZ, ofZ}
 use Rattle.lexical_format.specs.Format.{orAbsent, lowBreak, highBreak, outside, badBreaks}
 use Rattle.lexical_util.proofs.DifferenceLaws.{read-back}
 use Rattle.lexical_format.proofs.checks.check_writing.Statement.{statement}
@@ -16,15 +14,15 @@ notation : (c : tie.Joined1) → (c .before .args .format .«required_exponent_n
 notation c = ⊎-elim (λ w. rw (w .0 .taken, w .1 .left)) (λ w. rw (w .left)) (c .if1 .came)
 
 -- the breaks, none absent, and whether they are out of range
-low : (c : tie.After-or-absent) → toZ w32 (ofZ w32 (c .or-absent .result)) ≡ lowBreak (c .before .before .before .before .before .args .options)
+low : (c : tie.After-or-absent) → c .or-absent .result .0 ≡ lowBreak (c .before .before .before .before .before .args .options)
 low c =
     let z = c .before .before .before .before .before .args .options .«negative_exponent_break» in
-    read-back _ (c .or-absent .ok) ∙ c .or-absent .ensures ∙ ap (orAbsent (negsuc 4)) (read-back z (c .before .struct-told .given .1 .1 .1 .0 .1))
+    c .or-absent .ensures ∙ ap (orAbsent (negsuc 4)) (read-back z (c .before .struct-told .given .1 .1 .1 .0 .1))
 
-high : (c : tie.After-or-absent2) → toZ w32 (ofZ w32 (c .or-absent2 .result)) ≡ highBreak (c .before .before .before .before .before .before .before .args .options)
+high : (c : tie.After-or-absent2) → c .or-absent2 .result .0 ≡ highBreak (c .before .before .before .before .before .before .before .args .options)
 high c =
     let z = c .before .before .before .before .before .before .before .args .options .«positive_exponent_break» in
-    read-back _ (c .or-absent2 .ok) ∙ c .or-absent2 .ensures ∙ ap (orAbsent (pos 9)) (read-back z (c .before .struct-told2 .given .1 .1 .0 .1))
+    c .or-absent2 .ensures ∙ ap (orAbsent (pos 9)) (read-back z (c .before .struct-told2 .given .1 .1 .0 .1))
 
 low-out : (c : tie.After-outside)
     → c .outside .result ≡ outside (negsuc 1999) (negsuc 0) (lowBreak (c .before .before .before .before .before .before .before .before .args .options))

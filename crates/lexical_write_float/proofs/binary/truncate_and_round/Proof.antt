@@ -9,9 +9,9 @@ use mir.Syntax.{w16}
 use mir.Val.{toZ, ofZ}
 use lib.Ieee.{size}
 use lib.Ieee.Digits.{size-le}
-use Rattle.lexical_util.specs.Exponent.{scale}
+use Rattle.lexical_util.specs.Exponent.{scale, modulo}
 use Rattle.lexical_util.proofs.PowerLaws.{size-pos}
-use Rattle.lexical_text.specs.Value.{normal, modulo}
+use Rattle.lexical_text.specs.Value.{normal}
 use Rattle.lexical_text.specs.Range.{Between}
 use Rattle.lexical_text.proofs.Integers.{between-wider}
 use Rattle.lexical_write_float.proofs.StoredLaws.{stored-is, raised-stored, raised-near}

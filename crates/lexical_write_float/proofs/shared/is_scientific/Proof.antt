@@ -1,5 +1,4 @@
 -- `lexical_write_float::shared::is_scientific` meets its contract: by the two flags, then by the breaks. Assumes nothing.
-use Rattle.lexical_util.proofs.DifferenceLaws.{read-back}
 use Rattle.lexical_format.specs.Format.{outside}
 use Rattle.lexical_text.specs.Text.{isScientific}
 use mathlib.Core.Path.{refl, _∙_}
@@ -20,9 +19,7 @@ outside-requires c κs = tt
 returns-3 : tie.Need-returns-3
 unfolding isScientific
 returns-3 c = λ o l h.
-    let a = c .before .before .before .before .before .before .args in
-    rw (c .before .before .before .before .before .if1 .left, c .before .before .before .before .if2 .left)
-    (c .outside .ensures ∙ rw (read-back (a .checked .«negative_exponent_break») (c .before .before .before .struct-told .given .1 .1 .0 .1), read-back (a .checked .«positive_exponent_break») (c .before .before .struct-told2 .given .1 .1 .1 .0 .1), read-back (a .s .0) (c .before .struct-told3 .given .0 .1), l, h) refl)
+    rw (c .before .before .before .before .if1 .left, c .before .before .before .if2 .left) (c .outside .ensures ∙ rw (l, h) refl)
 
 pub is-scientific-spec : {M : Type 1} → statement M
 is-scientific-spec = tie.close (tie.spec returns returns-2 outside-requires returns-3)

@@ -2,17 +2,12 @@
 use mathlib.Core.List.{List}
 use Rattle.lexical_text.specs.Text.{point, positive}
 use Rattle.lexical_write_float.specs.Code.{IsPlan}
-use mathlib.Core.Path.{_≡_, ap, _∙_, subst}
-use lib.IntN.{natAbs}
-use Rattle.lexical_util.proofs.DifferenceLaws.{read-back}
-use Prim.Native.Nat.{ℕ, _+_}
+use mathlib.Core.Path.{subst}
+use Prim.Native.Nat.{ℕ}
 use native.Mathlib.Omega.{arith}
 use borrow.Author.Needs.{needs}
 use Rattle.lexical_write_float.proofs.write.plan_of.Statement.{statement}
 use Rattle.lexical_write_float.proofs.write.plan_of.Tie as tie
-
-far : (c : tie.After-unsigned-abs) → c .unsigned-abs .result ≡ natAbs (c .before .before .before .before .args .p .0)
-far c = c .unsigned-abs .ensures ∙ ap natAbs (read-back (c .before .before .before .before .args .p .0) (c .before .struct-told .given .0 .1))
 
 enum-told : tie.Need-enum-told
 enum-told c = search needs
@@ -29,17 +24,11 @@ write-float-negative-exponent-requires c κs = let s = c .before .before in (s .
 enum-told-3 : tie.Need-enum-told-3
 enum-told-3 c = search needs
 
-unsigned-abs-requires : tie.Need-unsigned-abs-requires
-unsigned-abs-requires c κs = tt
-
-cast-places : tie.Need-cast-places
-cast-places c = search needs
-
-add-places : tie.Need-add-places
-add-places c = omega (arith, far c, c .before .before .before .before .pre .1)
+places-before-point-requires : tie.Need-places-before-point-requires
+places-before-point-requires c κs = tt
 
 write-float-positive-exponent-requires : tie.Need-write-float-positive-exponent-requires
-write-float-positive-exponent-requires c κs = let s = c .before .before .before .before in (omega (arith, far c, s .pre .1), s .pre .2)
+write-float-positive-exponent-requires c κs = let s = c .before .before .before in (omega (arith, c .places-before-point .ensures, s .pre .1), s .pre .2)
 
 returns : tie.Need-returns
 returns c = let s = c .before .before .before in rw (c .before .enum-told .given .1) (c .write-float-scientific .ensures)
@@ -50,9 +39,9 @@ returns-2 c = let s = c .before .before .before in rw (c .before .enum-told2 .gi
 returns-3 : tie.Need-returns-3
 returns-3 c =
     let u = c .before in
-    let a = u .before .before .before .before .args in
-    let q = subst (λ (n : ℕ). IsPlan (point (a .format) (a .options)) (a .count) (λ (D : List ℕ). positive (a .format) (a .options) D (n + 1) (a .so-far)) (c .write-float-positive-exponent .result)) (far u) (c .write-float-positive-exponent .ensures (a .format)) in
-    rw (u .before .before .enum-told3 .given .1) q
+    let a = u .before .before .before .args in
+    let q = subst (λ (n : ℕ). IsPlan (point (a .format) (a .options)) (a .count) (λ (D : List ℕ). positive (a .format) (a .options) D n (a .so-far)) (c .write-float-positive-exponent .result)) (u .places-before-point .ensures) (c .write-float-positive-exponent .ensures (a .format)) in
+    rw (u .before .enum-told3 .given .1) q
 
 pub plan-of-spec : {M : Type 1} → statement M
 plan-of-spec =
@@ -63,9 +52,7 @@ plan-of-spec =
     enum-told-2
     write-float-negative-exponent-requires
     enum-told-3
-    unsigned-abs-requires
-    cast-places
-    add-places
+    places-before-point-requires
     write-float-positive-exponent-requires
     returns
     returns-2

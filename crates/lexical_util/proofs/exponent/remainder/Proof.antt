@@ -1,10 +1,10 @@
--- `lexical_write_float::binary::remainder` meets its contract: what the quotient leaves. Assumes nothing.
+-- `lexical_util::exponent::remainder` meets its contract: what the quotient leaves. Assumes nothing.
 use Prim.Native.Nat.{ℕ, _+_, _*_, _%_}
 use mathlib.Core.Path.{_≡_, ap, _∙_}
 use native.Mathlib.Nat.{mod-lt, div-add-mod, div-le-self}
 use native.Mathlib.Omega.{arith}
-use Rattle.lexical_write_float.proofs.binary.remainder.Statement.{statement}
-use Rattle.lexical_write_float.proofs.binary.remainder.Tie as tie
+use Rattle.lexical_util.proofs.exponent.remainder.Statement.{statement}
+use Rattle.lexical_util.proofs.exponent.remainder.Tie as tie
 
 -- the quotient's part, and what is left
 parts : (c : tie.After-quotient) → let a = c .before .args in a .divisor * c .quotient .result + a .value % a .divisor ≡ a .value
@@ -23,7 +23,7 @@ sub-result : tie.Need-sub-result
 sub-result c = omega (arith, parts c)
 
 returns : tie.Need-returns
-returns c = let a = c .before .args in (omega (arith, parts c), omega (arith, parts c, mod-lt (a .value) (c .before .pre)))
+returns c = let a = c .before .args in (omega (arith, parts c), λ d. omega (arith, parts c, mod-lt (a .value) d))
 
 pub remainder-spec : {M : Type 1} → statement M
 remainder-spec = tie.close (tie.spec quotient-requires cast-result mul-result sub-result returns)
