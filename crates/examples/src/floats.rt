@@ -5,6 +5,7 @@ use lexical_pack::MadeF32;
 use lexical_pack::MadeF64;
 use lexical_pack::f32_from_parts;
 use lexical_pack::f64_from_parts;
+use lexical_util::BitExponent;
 use lexical_util::Magnitude;
 
 // The float with these bits, any NaN where they are a NaN's.
@@ -54,7 +55,7 @@ fn print_f32(made: MadeF32) {
 fn print_magnitude(value: Magnitude) {
     print::number(value.mantissa);
     print::text(b" * 2^");
-    print::short(value.exponent);
+    print::signed(value.exponent.0);
 }
 
 // A float made of a sign, a mantissa and an exponent: `<width> <sign><mantissa> * 2^<exponent> is <bits>`.
@@ -108,7 +109,8 @@ fn f32_line(bits: u32) {
     print_parts(false, lexical_float::parts_f32(f32_of(bits)));
 }
 
-fn each_made(wide: bool, mantissa: u64, exponent: i16) {
+fn each_made(wide: bool, mantissa: u64, e: i32) {
+    let exponent = BitExponent(e);
     made_line(wide, false, Magnitude { mantissa, exponent });
     made_line(wide, true, Magnitude { mantissa, exponent });
 }

@@ -18,10 +18,6 @@ pub(crate) fn signed(n: i32) {
     number(lexical_util::unsigned_abs(n) as u64);
 }
 
-pub(crate) fn short(n: i16) {
-    signed(n as i32);
-}
-
 pub(crate) fn hex(n: u64) {
     io::print_hex(STDOUT_FILENO, n, 1);
 }

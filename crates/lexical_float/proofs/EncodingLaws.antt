@@ -10,15 +10,14 @@ use lib.Bits.{bitAnd, and-mask}
 use lib.IntN.{pos, _-ℤ_}
 use lib.Pow.{pow-pos}
 use lib.Ieee.{Format, binary32, binary64, prec, emax, low, hid, ones, top, minus, ofBits}
-use mir.Syntax.{w16}
+use mir.Syntax.{w32}
 use mir.Val.{SFits, toZ, ofZ}
-use mir.Facts.{toZ-ofZ}
 use Rattle.lexical_float.specs.declared.encoding.Encoding.{Encoding}
 use Rattle.lexical_util.specs.declared.exponent.Magnitude.{Magnitude}
 use Rattle.lexical_float.specs.declared.num.Parts.the-variants.{Plain, Negative, Special}
 use Rattle.lexical_float.specs.Encoding.{encodingOf, bitsOf}
 use Rattle.lexical_float.specs.Parts.{magnitudeOf, partsOf}
-use Rattle.lexical_util.proofs.DifferenceLaws.{minus-fits, difference-fits, difference-is}
+use Rattle.lexical_util.proofs.DifferenceLaws.{difference-fits, difference-is}
 use Rattle.lexical_float.proofs.PartsLaws.{signed, finite-below, magnitude-bits, parts-bits, special-bits, sign-and-rest}
 
 -- what is known of the two widths' numbers
@@ -39,9 +38,9 @@ module _ (f : Format) (E : Encoding) (is : E ≡ encodingOf f) where
   pub hidden-few : E .«hidden_bit_mask» ≤ 4503599627370496
   hidden-few = rw is (small f .hidden)
 
-  -- the denormals' exponent, as the code reads it
-  pub least : toZ w16 (ofZ w16 (E .«denormal_exponent»)) ≡ minus 0 (low f)
-  least = rw is (toZ-ofZ (minus-fits w16 0 (low f) (omega arith) (omega (arith, small f .least))))
+  -- the denormals' exponent
+  pub least : E .«denormal_exponent» .0 ≡ minus 0 (low f)
+  least = rw is
 
 -- ---- at the width's own masks, the code's answer is the magnitude
 module _ (f : Format) (E : Encoding) (is : E ≡ encodingOf f) (bits : ℕ) (h : bits < ones f * hid f) where
@@ -57,24 +56,24 @@ module _ (f : Format) (E : Encoding) (is : E ≡ encodingOf f) (bits : ℕ) (h :
   pub stored-few : bitAnd bits (E .«hidden_bit_mask» - 1) < 4503599627370496
   stored-few = rw masked (omega (arith, small f .hidden, mod-lt bits (pow-pos (prec f - 1))))
 
-  pub biased-fits : SFits w16 (pos (bits / 2 ^ E .«mantissa_size»))
+  pub biased-fits : SFits w32 (pos (bits / 2 ^ E .«mantissa_size»))
   biased-fits = rw is (record { sfits = omega (arith, small f .exponents, finite-below f bits h .1) })
 
-  pub exponent-fits : SFits w16 (toZ w16 (bits / 2 ^ E .«mantissa_size») -ℤ toZ w16 (ofZ w16 (E .«exponent_bias»)))
-  exponent-fits = rw is (difference-fits w16 (bits / hid f) (suc (low f)) (omega (arith, small f .exponents, finite-below f bits h .1)) (omega (arith, small f .least)))
+  pub exponent-fits : SFits w32 (toZ w32 (bits / 2 ^ E .«mantissa_size») -ℤ toZ w32 (ofZ w32 (E .«exponent_bias»)))
+  exponent-fits = rw is (difference-fits w32 (bits / hid f) (suc (low f)) (omega (arith, small f .exponents, finite-below f bits h .1)) (omega (arith, small f .least)))
 
   pub denormal-is : bits / 2 ^ E .«mantissa_size» ≡ 0
-      → record { mantissa = bitAnd bits (E .«hidden_bit_mask» - 1); exponent = toZ w16 (ofZ w16 (E .«denormal_exponent»)) } ≡ magnitudeOf f (ofBits f bits)
+      → record { mantissa = bitAnd bits (E .«hidden_bit_mask» - 1); exponent = E .«denormal_exponent» } ≡ magnitudeOf f (ofBits f bits)
   denormal-is z =
       let q : bits / hid f ≡ 0 = rw is at z in
-      rw (masked, least f E is) (sym (magnitude-bits f false bits h ∙ rw (eq-eqb (bits / hid f) 0 q)))
+      rw masked (rw is (sym (magnitude-bits f false bits h ∙ rw (eq-eqb (bits / hid f) 0 q))))
 
   pub normal-is : (bits / 2 ^ E .«mantissa_size» ≡ 0 → ⊥)
-      → record { mantissa = E .«hidden_bit_mask» + bitAnd bits (E .«hidden_bit_mask» - 1); exponent = toZ w16 (ofZ w16 (toZ w16 (bits / 2 ^ E .«mantissa_size») -ℤ toZ w16 (ofZ w16 (E .«exponent_bias»)))) }
+      → record { mantissa = E .«hidden_bit_mask» + bitAnd bits (E .«hidden_bit_mask» - 1); exponent = record { 0 = toZ w32 (ofZ w32 (toZ w32 (bits / 2 ^ E .«mantissa_size») -ℤ toZ w32 (ofZ w32 (E .«exponent_bias»)))) } }
       ≡ magnitudeOf f (ofBits f bits)
   normal-is z =
       let q : bits / hid f ≡ 0 → ⊥ = rw is at z in
-      let e = difference-is w16 (bits / hid f) (suc (low f)) (omega (arith, small f .exponents, finite-below f bits h .1)) (omega (arith, small f .least)) in
+      let e = difference-is w32 (bits / hid f) (suc (low f)) (omega (arith, small f .exponents, finite-below f bits h .1)) (omega (arith, small f .least)) in
       rw masked (rw (is, e) (sym (magnitude-bits f false bits h ∙ rw (ne-eqb (bits / hid f) 0 q))))
 
 -- ---- and the code's tests tell the three cases apart

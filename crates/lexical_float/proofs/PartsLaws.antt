@@ -108,7 +108,7 @@ value-no-nan (inf t) s a c h = tt
 value-no-nan (fin t m e) s a c h = tt
 
 pub magnitude-bits : (f : Format) (s : Bool) (n : ℕ) → n < ones f * hid f
-    → magnitudeOf f (ofBits f (bitsOf f s n)) ≡ record { mantissa = mantissaBits f n; exponent = exponentBits f n }
+    → magnitudeOf f (ofBits f (bitsOf f s n)) ≡ record { mantissa = mantissaBits f n; exponent = record { 0 = exponentBits f n } }
 magnitude-bits f s n h =
     let w = below f s n (finite-below f n h .0) in
     rw (toBits-ofBits f (bitsOf f s n) (w .few) (value-no-nan (ofBits f (bitsOf f s n)) s _ _ (bits-value f s n h)), w .stored, w .biased)
@@ -147,7 +147,7 @@ special-bits f s n l h =
     rw (w .sign, w .rest, w .stored) (fields-special f s (n / hid f) (n % hid f) field)
 
 -- ---- the parts of a float are its value
-signed-value : (x : Float) (s : Bool) (v : Magnitude) → HasValue x s (v .mantissa * up (v .exponent)) (down (v .exponent)) → IsValue x (signed s v)
+signed-value : (x : Float) (s : Bool) (v : Magnitude) → HasValue x s (v .mantissa * up (v .exponent .0)) (down (v .exponent .0)) → IsValue x (signed s v)
 signed-value x true v h = h
 signed-value x false v h = h
 
@@ -163,7 +163,7 @@ parts-value-bits f s n h =
     let x = ofBits f (bitsOf f s n) in
     by-larger n (ones f * hid f) (IsValue x (partsOf f x))
     (λ l. let e = special-bits f s n l h in rw e (special-value f x e))
-    (λ l. rw (parts-bits f s n l, magnitude-bits f false n l) (signed-value x s (record { mantissa = mantissaBits f n; exponent = exponentBits f n }) (bits-value f s n l)))
+    (λ l. rw (parts-bits f s n l, magnitude-bits f false n l) (signed-value x s (record { mantissa = mantissaBits f n; exponent = record { 0 = exponentBits f n } }) (bits-value f s n l)))
 
 -- a pattern of the width is a sign and the bits below it
 pub split-bits : (f : Format) (b : ℕ) → b < 2 * top f → (P : ℕ → Type 0) → ((s : Bool) (n : ℕ) → n < top f → P (bitsOf f s n)) → P b

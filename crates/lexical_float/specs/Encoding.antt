@@ -19,7 +19,7 @@ encodingOf f =
       «exponent_mask» = ones f * hid f;
       «sign_mask» = top f;
       «exponent_bias» = pos (suc (low f));
-      «denormal_exponent» = minus 0 (low f);
+      «denormal_exponent» = record { 0 = minus 0 (low f) };
     }
 
 -- a bit pattern: the sign, and the bits n below it

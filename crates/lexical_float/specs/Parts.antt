@@ -11,7 +11,7 @@ use Rattle.lexical_float.specs.declared.num.Parts.the-variants.{Plain, N
 use Rattle.lexical_float.specs.Fields.{mantissa, exponent}
 
 abbrev pub magnitudeOf : Format → Float → Magnitude
-magnitudeOf f x = record { mantissa = mantissa f x; exponent = exponent f x }
+magnitudeOf f x = record { mantissa = mantissa f x; exponent = record { 0 = exponent f x } }
 
 -- 7 not finite, or sign bit set (-0 too): all but the first of the three cases, finite with the sign bit clear
 unfoldable pub partsOf : Format → Float → Parts
@@ -22,6 +22,6 @@ partsOf f (fin false m e) = Plain (magnitudeOf f (fin false m e))
 
 -- the parts are the float: they have its sign, and mantissa * 2 ^ exponent, the fraction of `up` and `down`, is its size; or it is not finite
 abbrev pub IsValue : Float → Parts → Type 0
-IsValue x (Plain v) = HasValue x false (v .mantissa * up (v .exponent)) (down (v .exponent))
-IsValue x (Negative v) = HasValue x true (v .mantissa * up (v .exponent)) (down (v .exponent))
+IsValue x (Plain v) = HasValue x false (v .mantissa * up (v .exponent .0)) (down (v .exponent .0))
+IsValue x (Negative v) = HasValue x true (v .mantissa * up (v .exponent .0)) (down (v .exponent .0))
 IsValue x Special = T (not (finite x))

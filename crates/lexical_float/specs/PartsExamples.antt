@@ -20,13 +20,13 @@ sameInteger (negsuc a) (negsuc b) = eqb a b
 
 -- finite with the sign bit clear, or with it set, of this mantissa and this exponent; an infinity or a NaN
 abbrev isPlain : ℕ → ℤ → Parts → Bool
-isPlain m e (Plain v) = eqb (v .mantissa) m && sameInteger (v .exponent) e
+isPlain m e (Plain v) = eqb (v .mantissa) m && sameInteger (v .exponent .0) e
 isPlain m e (Negative v) = false
 isPlain m e Special = false
 
 abbrev isNegative : ℕ → ℤ → Parts → Bool
 isNegative m e (Plain v) = false
-isNegative m e (Negative v) = eqb (v .mantissa) m && sameInteger (v .exponent) e
+isNegative m e (Negative v) = eqb (v .mantissa) m && sameInteger (v .exponent .0) e
 isNegative m e Special = false
 
 abbrev isSpecial : Parts → Bool

@@ -5,6 +5,7 @@ ghost use lib.Ieee.{hid, ones, top, ofBits};
 ghost use Rattle.lexical_float.specs.Encoding.{formatOf, encodingOf};
 ghost use Rattle.lexical_float.specs.Parts.{magnitudeOf, partsOf};
 use crate::num::Parts;
+use lexical_util::BitExponent;
 use lexical_util::Magnitude;
 
 pub enum Width {
@@ -18,8 +19,8 @@ pub struct Encoding {
     pub hidden_bit_mask: u64,
     pub exponent_mask: u64,
     pub sign_mask: u64,
-    pub exponent_bias: i16,
-    pub denormal_exponent: i16,
+    pub exponent_bias: i32,
+    pub denormal_exponent: BitExponent,
 }
 
 pub fn encoding_of(width: Width) -> Encoding
@@ -32,7 +33,7 @@ pub fn encoding_of(width: Width) -> Encoding
             exponent_mask: 0x7f80_0000,
             sign_mask: 0x8000_0000,
             exponent_bias: 150,
-            denormal_exponent: -149,
+            denormal_exponent: BitExponent(-149),
         },
         Width::Binary64 => Encoding {
             mantissa_size: 52,
@@ -40,7 +41,7 @@ pub fn encoding_of(width: Width) -> Encoding
             exponent_mask: 0x7ff0_0000_0000_0000,
             sign_mask: 0x8000_0000_0000_0000,
             exponent_bias: 1075,
-            denormal_exponent: -1074,
+            denormal_exponent: BitExponent(-1074),
         },
     }
 }
@@ -55,14 +56,15 @@ fn magnitude_of_bits(bits: u64, width: Width) -> Magnitude
     let stored = bits & (hidden - 1);
     let biased = bits >> encoding.mantissa_size;
     if biased == 0 {
+        let least = encoding.denormal_exponent;
         return Magnitude {
             mantissa: stored,
-            exponent: encoding.denormal_exponent,
+            exponent: least,
         };
     }
     Magnitude {
         mantissa: hidden + stored,
-        exponent: biased as i16 - encoding.exponent_bias,
+        exponent: BitExponent(biased as i32 - encoding.exponent_bias),
     }
 }
 

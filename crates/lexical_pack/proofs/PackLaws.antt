@@ -6,9 +6,10 @@ use native.Mathlib.Omega.{arith}
 use lib.IntN.{ℤ, pos, _+ℤ_}
 use lib.Signed.{ltZ}
 use lib.Ieee.{Format, low, hid, ones, minus}
-use mir.Syntax.{w16, w64}
-use mir.Val.{Fits, SFits, toZ, ofZ}
-use mir.Facts.{toZ-ofZ}
+use mir.Syntax.{w64}
+use mir.Val.{Fits}
+use Rattle.lexical_util.specs.Exponent.{heightAbove}
+use Rattle.lexical_util.proofs.ExponentLaws.{height-is}
 use Rattle.lexical_float.specs.declared.encoding.Encoding.{Encoding}
 use Rattle.lexical_pack.specs.declared.pattern.Pattern.{Pattern}
 use Rattle.lexical_float.specs.Encoding.{encodingOf, bitsOf}
@@ -56,10 +57,12 @@ module _ (f : Format) (E : Encoding) (is : E ≡ encodingOf f) (n : ℕ) where
   pub sign-clear : (s : Bool) → s ≡ false → n ≡ bitsOf f s n
   sign-clear s e = rw e
 
--- ---- an exponent against the least one, both as the code has them
-module _ (f : Format) (E : Encoding) (is : E ≡ encodingOf f) (m : ℕ) (e : ℤ) (h : SFits w16 e) where
-  pub low-no : ltZ (toZ w16 (ofZ w16 e)) (toZ w16 (ofZ w16 (E .«denormal_exponent»))) ≡ true → fitting f m e ≡ false
-  low-no t = too-low f m e (rw (toZ-ofZ h, least f E is) at t)
+-- ---- an exponent against the least one
+module _ (f : Format) (E : Encoding) (is : E ≡ encodingOf f) (m : ℕ) (e : ℤ) where
+  pub low-no : ltZ e (E .«denormal_exponent» .0) ≡ true → fitting f m e ≡ false
+  low-no t = too-low f m e (rw (least f E is) at t)
 
-  pub lift-is : (k : ℕ) (r : Pattern) → toZ w16 (ofZ w16 e) ≡ toZ w16 (ofZ w16 (E .«denormal_exponent»)) +ℤ pos k → IsBits f m (minus k (low f)) r → IsBits f m e r
-  lift-is k r l b = rw (sym (toZ-ofZ h) ∙ l ∙ ap (λ (z : ℤ). z +ℤ pos k) (least f E is) ∙ minus-add k (low f)) b
+  pub lift-is : (k : ℕ) (r : Pattern) → ltZ e (E .«denormal_exponent» .0) ≡ false → k ≡ heightAbove e (E .«denormal_exponent» .0) → IsBits f m (minus k (low f)) r → IsBits f m e r
+  lift-is k r t l b =
+      let d = E .«denormal_exponent» .0 in
+      rw (height-is e d t ∙ ap (λ (n : ℕ). d +ℤ pos n) (sym l) ∙ ap (λ (z : ℤ). z +ℤ pos k) (least f E is) ∙ minus-add k (low f)) b

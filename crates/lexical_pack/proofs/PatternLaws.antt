@@ -166,7 +166,7 @@ module _ (f : Format) (m k : ℕ) (lo : hid f ≤ m) (hi : m ≤ 2 * hid f) wher
 
 -- ---- with the sign, and as a float
 module _ (f : Format) (s : Bool) (v : Magnitude) where
-  pub with-sign : (n : ℕ) → BitsOf f (v .mantissa) (v .exponent) n → PatternOf f s v (bitsOf f s n)
+  pub with-sign : (n : ℕ) → BitsOf f (v .mantissa) (v .exponent .0) n → PatternOf f s v (bitsOf f s n)
   with-sign n b =
       record {
         fits = b .fits;
@@ -178,10 +178,10 @@ module _ (f : Format) (s : Bool) (v : Magnitude) where
   pub float-yes : (b : ℕ) → PatternOf f s v b → (some (ofBits f b) ≡ floatFrom f s v) × IsExact s v (some (ofBits f b))
   unfolding floatFrom
   float-yes b p =
-      let e = v .exponent in
+      let e = v .exponent .0 in
       (rw (p .fits) (ap some (sym (round-of-value f s (ofBits f b) (v .mantissa * up e) (down e) (down-pos e) (ofBits-fits f b) (p .value)))), p .value)
 
-  pub float-no : fitting f (v .mantissa) (v .exponent) ≡ false → (none ≡ floatFrom f s v) × IsExact s v none
+  pub float-no : fitting f (v .mantissa) (v .exponent .0) ≡ false → (none ≡ floatFrom f s v) × IsExact s v none
   unfolding floatFrom
   float-no h = (rw h, tt)
 
@@ -202,7 +202,7 @@ bits-fit f n h =
     let k : n / hid f - 1 < 2 * emax f = omega (arith, finite-below f n h .1, two f, reach f) in
     rw (lifted f (n / hid f)) (fits-yes f (mantissaBits f n) (n / hid f - 1) (omega (arith, w .0)) (w .1) (under f (mantissaBits f n) (n / hid f - 1) (w .0) k))
 
-from-bits : (f : Format) (s : Bool) (n : ℕ) → n < ones f * hid f → floatFrom f s (record { mantissa = mantissaBits f n; exponent = exponentBits f n }) ≡ some (ofBits f (bitsOf f s n))
+from-bits : (f : Format) (s : Bool) (n : ℕ) → n < ones f * hid f → floatFrom f s (record { mantissa = mantissaBits f n; exponent = record { 0 = exponentBits f n } }) ≡ some (ofBits f (bitsOf f s n))
 unfolding floatFrom
 from-bits f s n h =
     let e = exponentBits f n in

@@ -21,7 +21,7 @@ fitting f m e =
 
 -- the float with the sign s and the size m * 2 ^ e, if m and e fit
 unfoldable pub floatFrom : Format → Bool → Magnitude → Option Float
-floatFrom f s v = cond (fitting f (v .mantissa) (v .exponent)) (some (round f s (v .mantissa * up (v .exponent)) (down (v .exponent)))) none
+floatFrom f s v = cond (fitting f (v .mantissa) (v .exponent .0)) (some (round f s (v .mantissa * up (v .exponent .0)) (down (v .exponent .0)))) none
 
 -- the cases of the answers
 abbrev pub ofMadeF64 : MadeF64 → Option Float
@@ -35,4 +35,4 @@ ofMadeF32 NoFloat32 = none
 -- the float answered has that value exactly
 abbrev pub IsExact : Bool → Magnitude → Option Float → Type 0
 IsExact s v none = Unit {0}
-IsExact s v (some x) = HasValue x s (v .mantissa * up (v .exponent)) (down (v .exponent))
+IsExact s v (some x) = HasValue x s (v .mantissa * up (v .exponent .0)) (down (v .exponent .0))

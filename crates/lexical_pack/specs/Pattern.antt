@@ -24,11 +24,11 @@ IsBits f m e NoFloat = fitting f m e ≡ false
 
 -- a whole pattern b is that of the float with the sign s and the size m * 2 ^ e
 pub record PatternOf (f : Format) (s : Bool) (v : Magnitude) (b : ℕ) : Type 0 where
-  pub fits : fitting f (v .mantissa) (v .exponent) ≡ true
+  pub fits : fitting f (v .mantissa) (v .exponent .0) ≡ true
   pub few : b < 2 * top f
   pub no-nan : T (not (nanBits f b))
-  pub value : HasValue (ofBits f b) s (v .mantissa * up (v .exponent)) (down (v .exponent))
+  pub value : HasValue (ofBits f b) s (v .mantissa * up (v .exponent .0)) (down (v .exponent .0))
 
 abbrev pub IsPattern : Format → Bool → Magnitude → Pattern → Type 0
 IsPattern f s v (Bits b) = PatternOf f s v b
-IsPattern f s v NoFloat = fitting f (v .mantissa) (v .exponent) ≡ false
+IsPattern f s v NoFloat = fitting f (v .mantissa) (v .exponent .0) ≡ false

@@ -1,15 +1,14 @@
 // The bit pattern of a sign, a mantissa and an exponent: the way back, one body on u64 with the width beside it.
 ghost use mathlib.Core.Path.{_≡_};
-ghost use mathlib.Core.Bool.{false};
 ghost use Prim.Native.Nat.{_*_, _<_};
-ghost use lib.IntN.{pos, _+ℤ_};
-ghost use lib.Signed.{ltZ};
 ghost use lib.Ieee.{low, hid, ones, minus};
 ghost use Rattle.lexical_float.specs.Encoding.{formatOf, bitsOf};
 ghost use Rattle.lexical_pack.specs.Pattern.{IsBits, IsPattern};
 use lexical_float::Width;
 use lexical_float::encoding_of;
 use lexical_util::Magnitude;
+use lexical_util::height_above;
+use lexical_util::is_below;
 
 // The bits of a magnitude below the sign, if it fits.
 pub(crate) enum Pattern {
@@ -44,24 +43,17 @@ fn bits_of_units(mantissa: u64, lift: u32, width: Width) -> Pattern
     Pattern::NoFloat
 }
 
-// How far an exponent stands above the least one.
-fn lift_of(exponent: i16, least: i16) -> u32
-    requires { ⌜ ltZ exponent least ≡ false ⌝ }
-    ensures { λ r. ⌜ exponent ≡ least +ℤ pos r ⌝ }
-{
-    (exponent as i32 - least as i32) as u32
-}
-
 fn bits_of_magnitude(value: Magnitude, width: Width) -> Pattern
-    ensures { λ r. ⌜ IsBits (formatOf width) (value .mantissa) (value .exponent) r ⌝ }
+    ensures { λ r. ⌜ IsBits (formatOf width) (value .mantissa) (value .exponent .0) r ⌝ }
 {
     let encoding = encoding_of(width);
     let least = encoding.denormal_exponent;
     let exponent = value.exponent;
-    if exponent < least {
+    if is_below(exponent, least) {
         return Pattern::NoFloat;
     }
-    bits_of_units(value.mantissa, lift_of(exponent, least), width)
+    let lift = height_above(exponent, least);
+    bits_of_units(value.mantissa, lift, width)
 }
 
 // The sign joins the bits below it here and nowhere else.

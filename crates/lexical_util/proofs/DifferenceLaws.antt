@@ -1,14 +1,15 @@
 -- The difference of two natural numbers as an integer, and in the signed arithmetic of a width. Assumes nothing.
-use Prim.Native.Nat.{ℕ, zero, suc, _-_, _^_, _≤_, _<_}
-use mathlib.Core.Path.{_≡_, sym, ap, ap₂, _∙_}
+use Prim.Native.Nat.{ℕ, zero, suc, _+_, _-_, _^_, _≤_, _<_}
+use mathlib.Core.Bool.{false}
+use mathlib.Core.Path.{_≡_, refl, sym, ap, ap₂, _∙_}
 use native.Mathlib.Decide.{decLe}
 use native.Mathlib.Nat.{lt-of-not-le}
 use native.Mathlib.Omega.{arith}
-use borrow.Author.Tests.{le-leb, lt-leb, lt-ltb, le-ltb}
+use borrow.Author.Tests.{le-leb, lt-leb, lt-ltb, le-ltb, ltb-false}
 use lib.IntN.{ℤ, pos, negsuc, _+ℤ_, _-ℤ_, -ℤ-+ℤ-cancel, +ℤ-comm}
-use lib.Signed.{mag}
+use lib.Signed.{mag, ltZ}
 use lib.Ieee.{minus}
-use mir.Syntax.{Width, w16, w32}
+use mir.Syntax.{Width, w32, w64}
 use mir.Val.{SFits, hbits, toZ, ofZ}
 use mir.Facts.{toZ-ofZ, toZ-pos, sfits-widen}
 
@@ -42,6 +43,20 @@ minus-is a b = by-larger a b (pos a -ℤ pos b ≡ minus a b) (λ h. nat-less a 
 pub gap-above : (a b : ℤ) (k : ℕ) → a -ℤ b ≡ pos k → a ≡ b +ℤ pos k
 gap-above a b k e = sym (-ℤ-+ℤ-cancel a b) ∙ ap (λ (z : ℤ). z +ℤ b) e ∙ +ℤ-comm (pos k) b
 
+-- the larger one first
+pub record Gap (a b : ℤ) : Type 0 where
+  pub gap : ℕ
+  pub is : a -ℤ b ≡ pos gap
+  pub few : gap ≤ suc (mag a + mag b)
+
+pub gap-of : (a b : ℤ) → ltZ a b ≡ false → Gap a b
+gap-of (pos m) (pos n) h = record { gap = m - n; is = nat-less m n (ltb-false m n h); few = omega arith }
+gap-of (pos m) (negsuc n) h = record { gap = m + suc n; is = refl; few = omega arith }
+gap-of (negsuc m) (pos n) h = let z : _≡_ {A = ℕ} 0 1 = cc in absurd (omega arith)
+gap-of (negsuc m) (negsuc n) h =
+    let l : m ≤ n = ltb-false n m h in
+    record { gap = suc n - suc m; is = rw (le-ltb (suc n) (suc m) (omega arith)); few = omega arith }
+
 -- ---- at a width whose signed numbers hold both
 module _ (w : Width) (a b : ℕ) (h : a < 2 ^ hbits w) (k : b < 2 ^ hbits w) where
   signed-minus : toZ w a -ℤ toZ w b ≡ minus a b
@@ -63,8 +78,8 @@ module _ (w : Width) (a b : ℕ) (h : a < 2 ^ hbits w) (k : b < 2 ^ hbits w) whe
 pub read-back : (z : ℤ) → mag z < 2 ^ hbits w32 → toZ w32 (ofZ w32 z) ≡ z
 read-back z h = toZ-ofZ (record { sfits = h })
 
--- ---- a number of 16 bits, at 32
-pub widened : (z : ℤ) → SFits w16 z → SFits w32 (toZ w16 (ofZ w16 z)) × (toZ w32 (ofZ w32 (toZ w16 (ofZ w16 z))) ≡ z)
+-- ---- a number of 32 bits, at 64
+pub widened : (z : ℤ) → mag z < 2 ^ hbits w32 → SFits w64 (toZ w32 (ofZ w32 z)) × (toZ w64 (ofZ w64 (toZ w32 (ofZ w32 z))) ≡ z)
 widened z h =
-    let w : SFits w32 z = sfits-widen tt h in
-    rw (toZ-ofZ h) (w, toZ-ofZ w)
+    let w : SFits w64 z = sfits-widen {w = w32} tt (record { sfits = h }) in
+    rw (read-back z h) (w, toZ-ofZ w)

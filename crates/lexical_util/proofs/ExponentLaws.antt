@@ -5,7 +5,7 @@ use mathlib.Core.Bool.{true, false}
 use native.Mathlib.Nat.{zero-mul, one-mul, mul-one, mul-comm, mul-le-mul-right, mul-lt-mul-of-pos-right, suc-mul, mul-le-mul, mul-div-le, lt-mul-div-succ, div-zero, div-mul-le-self, lt-div-mul-add, div-eq-of-lt-le, div-lt-iff-lt-mul, div-mul-cancel, dvd-mul-left, dvd-mul-left-of-dvd, lt-of-le-of-lt, mod-lt, zero-lt-suc}
 use native.Mathlib.Numerals.{add-one}
 use native.Mathlib.Omega.{arith}
-use borrow.Author.Tests.{ltb-true, lt-ltb, le-ltb}
+use borrow.Author.Tests.{ltb-true, ltb-false, lt-ltb, le-ltb}
 use lib.Dec.{T, le→leb, lt→ltb}
 use lib.IntN.{ℤ, pos, negsuc, negℤ, natAbs, _+ℤ_, _-ℤ_, _*ℤ_, +ℤ-assoc}
 use lib.Signed.{mag, ltZ, nonNeg, mag-shr, _≤ℤ_, _<ℤ_, leZ-yes, ltZ-yes}
@@ -14,11 +14,11 @@ use lib.Ieee.{size, up, down}
 use lib.Ieee.Fits.{up-pos, down-pos}
 use lib.Pow.{pow-add}
 use lib.Ieee.Digits.{size-lt, size-le, size-reaches}
-use mir.Syntax.{w16, w32, w64}
+use mir.Syntax.{w32, w64}
 use mir.Val.{Fits, SFits, toZ, ofZ}
 use mir.Facts.{toZ-ofZ, toZ-pos}
-use Rattle.lexical_util.specs.Exponent.{scale, LeadingBit, place, isNegative, power, modulo}
-use Rattle.lexical_util.proofs.DifferenceLaws.{by-larger, widened}
+use Rattle.lexical_util.specs.Exponent.{clamped, scale, LeadingBit, place, isNegative, power, modulo, heightAbove}
+use Rattle.lexical_util.proofs.DifferenceLaws.{by-larger, gap-above, gap-of, widened}
 use Rattle.lexical_util.proofs.PowerLaws.{size-pos, leading-size}
 
 -- ---- significant bits by leading zeros, and s
@@ -62,27 +62,68 @@ leading-bit (suc m) e s is h =
           (mul-lt-mul-of-pos-right (mul-lt-mul-of-pos-right (rw more (size-lt (suc m))) (up-pos e)) (down-pos (e +ℤ pos (suc n))));
     }
 
--- an exponent of 16 bits and a count of bits
-sum-fits : (e : ℤ) (n : ℕ) → SFits w16 e → n < 64 → SFits w32 (e +ℤ pos n)
-sum-fits (pos k) n h l = record { sfits = omega (arith, h .sfits) }
+-- ---- an exponent held in 32 bits
+pub clamped-is : (z : ℤ) → mag z < 2147483648 → clamped z ≡ z
+clamped-is (pos n) h = ap pos (omega arith)
+clamped-is (negsuc n) h = ap negsuc (omega arith)
+
+pub past-most : (z : ℤ) → ltZ (pos 2147483647) z ≡ true → pos 2147483647 ≡ clamped z
+past-most (pos n) h = let l = ltb-true 2147483647 n h in ap pos (omega arith)
+past-most (negsuc n) h = cc
+
+pub past-least : (z : ℤ) → ltZ z (negsuc 2147483647) ≡ true → negsuc 2147483647 ≡ clamped z
+past-least (pos n) h = cc
+past-least (negsuc n) h = let l = ltb-true 2147483647 n h in ap negsuc (omega arith)
+
+pub between-ends : (z : ℤ) → ltZ (pos 2147483647) z ≡ false → ltZ z (negsuc 2147483647) ≡ false → mag z < 2147483648
+between-ends (pos n) h k = let l = ltb-false 2147483647 n h in omega arith
+between-ends (negsuc n) h k = let l = ltb-false 2147483647 n k in omega arith
+
+-- a sum and a difference at 64 bits
+sum-fits : (e : ℤ) (n : ℕ) → mag e < 2147483648 → n < 4294967296 → SFits w64 (e +ℤ pos n)
+sum-fits (pos k) n h l = record { sfits = omega arith }
 sum-fits (negsuc k) n h l =
-    by-larger n (suc k) (SFits w32 (negsuc k +ℤ pos n))
+    by-larger n (suc k) (SFits w64 (negsuc k +ℤ pos n))
     (λ g. rw (le-ltb n (suc k) g) (record { sfits = omega arith }))
-    (λ g. rw (lt-ltb n (suc k) g) (record { sfits = omega (arith, h .sfits) }))
+    (λ g. rw (lt-ltb n (suc k) g) (record { sfits = omega arith }))
 
 -- as the code adds them
-module _ (e : ℤ) (n : ℕ) (h : SFits w16 e) (l : n < 64) where
+module _ (e : ℤ) (n : ℕ) (h : mag e < 2147483648) (l : n < 4294967296) where
   abbrev pub coded-sum : ℤ
-  coded-sum = toZ w32 (ofZ w32 (toZ w16 (ofZ w16 e))) +ℤ toZ w32 n
+  coded-sum = toZ w64 (ofZ w64 (toZ w32 (ofZ w32 e))) +ℤ toZ w64 n
 
   coded-is : coded-sum ≡ e +ℤ pos n
-  coded-is = rw (widened e h .1, toZ-pos w32 {n = n} (omega arith))
+  coded-is = rw (widened e h .1, toZ-pos w64 {n = n} (omega arith))
 
-  pub coded-sum-fits : SFits w32 coded-sum
+  pub coded-sum-fits : SFits w64 coded-sum
   coded-sum-fits = rw coded-is (sum-fits e n h l)
 
-  pub coded-sum-is : toZ w32 (ofZ w32 coded-sum) ≡ e +ℤ pos n
+  pub coded-sum-is : toZ w64 (ofZ w64 coded-sum) ≡ e +ℤ pos n
   coded-sum-is = rw coded-is (toZ-ofZ (sum-fits e n h l))
+
+-- as the code takes them apart, the larger one first
+module _ (a b : ℤ) (h : mag a < 2147483648) (k : mag b < 2147483648) (le : ltZ a b ≡ false) where
+  difference : SFits w64 (a -ℤ b)
+  difference = let g = gap-of a b le in rw (g .is) (record { sfits = omega (arith, g .few) })
+
+  abbrev pub coded-gap : ℤ
+  coded-gap = toZ w64 (ofZ w64 (toZ w32 (ofZ w32 a))) -ℤ toZ w64 (ofZ w64 (toZ w32 (ofZ w32 b)))
+
+  coded-gap-same : coded-gap ≡ a -ℤ b
+  coded-gap-same = rw (widened a h .1, widened b k .1)
+
+  pub coded-gap-fits : SFits w64 coded-gap
+  coded-gap-fits = rw coded-gap-same difference
+
+  pub coded-gap-casts : T (nonNeg (toZ w64 (ofZ w64 coded-gap))) × Fits w32 (natAbs (toZ w64 (ofZ w64 coded-gap)))
+  coded-gap-casts = let g = gap-of a b le in rw (coded-gap-same, toZ-ofZ difference, g .is) (tt, record { fits = omega (arith, g .few) })
+
+  pub coded-gap-is : natAbs (toZ w64 (ofZ w64 coded-gap)) ≡ heightAbove a b
+  coded-gap-is = rw (coded-gap-same, toZ-ofZ difference, le)
+
+-- e is d and the height above it
+pub height-is : (e d : ℤ) → ltZ e d ≡ false → e ≡ d +ℤ pos (heightAbove e d)
+height-is e d le = let g = gap-of e d le in rw (le, g .is) (gap-above e d (g .gap) (g .is))
 
 -- ---- a signed number below 0, and its magnitude
 pub sign-is : (z : ℤ) → ltZ z (pos 0) ≡ isNegative z

@@ -1,13 +1,18 @@
 -- Significant bits and the three exponents of a value: document 01, "Float parts" and the s of "Layout". Definitions only.
-use Prim.Native.Nat.{ℕ, zero, suc, _+_, _-_, _*_, _/_, _%_, _≤_, _<_}
-use mathlib.Core.Bool.{Bool, true, false}
-use lib.IntN.{ℤ, pos, negsuc, natAbs, _+ℤ_}
-use lib.Signed.{shrZ}
+use Prim.Native.Nat.{ℕ, zero, suc, _+_, _-_, _*_, _/_, _%_, _≤_, _<_, min}
+use mathlib.Core.Bool.{Bool, true, false, cond}
+use lib.IntN.{ℤ, pos, negsuc, natAbs, _+ℤ_, _-ℤ_}
+use lib.Signed.{shrZ, ltZ}
 use lib.Ieee.{up, down, size}
 
 -- significant bits of the mantissa
 abbrev pub significantBits : ℕ → ℕ
 significantBits m = size m
+
+-- an exponent in bits as the code holds it, in 32 bits: from -2 ^ 31 to 2 ^ 31 - 1 it is itself, and past an end it is that end
+abbrev pub clamped : ℤ → ℤ
+clamped (pos n) = pos (min n 2147483647)
+clamped (negsuc n) = negsuc (min n 2147483647)
 
 -- ---- the three exponents of a value m * 2 ^ e
 -- s, in bits: e + significant bits of the mantissa - 1; for zero 0
@@ -46,3 +51,7 @@ zerosBehindPoint p = natAbs p - 1
 -- positive layout: p+1 places before the point
 abbrev pub placesBeforePoint : ℤ → ℕ
 placesBeforePoint p = natAbs p + 1
+
+-- how many bits an exponent e stands above another, d, and 0 where it does not
+abbrev pub heightAbove : ℤ → ℤ → ℕ
+heightAbove e d = cond (ltZ e d) 0 (natAbs (e -ℤ d))

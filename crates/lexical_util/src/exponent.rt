@@ -4,15 +4,9 @@ ghost use mathlib.Core.Path.{_≡_};
 ghost use Prim.Native.Nat.{_+_, _-_, _*_, _/_, _%_, _^_, _≤_, _<_};
 ghost use lib.IntN.{pos, natAbs, _+ℤ_, _*ℤ_};
 ghost use lib.Signed.{ltZ, _≤ℤ_, _<ℤ_};
-ghost use Rattle.lexical_util.specs.Exponent.{significantBits, scale, LeadingBit, place, isNegative, power, modulo, zerosBehindPoint, placesBeforePoint};
+ghost use Rattle.lexical_util.specs.Exponent.{significantBits, scale, LeadingBit, place, isNegative, power, modulo, zerosBehindPoint, placesBeforePoint, clamped, heightAbove};
 
-// A value mantissa * 2^exponent. Every float's exponent fits an i16.
-pub struct Magnitude {
-    pub mantissa: u64,
-    pub exponent: i16,
-}
-
-// In bits: s, or any exponent of two.
+// In bits: e, s, or any exponent of two.
 pub struct BitExponent(pub i32);
 
 // In digits: p, the place of a digit.
@@ -20,6 +14,12 @@ pub struct DigitExponent(pub i32);
 
 // In powers of the base, as a text has it: whether it is negative, and its magnitude.
 pub struct BaseExponent(pub bool, pub u64);
+
+// A value mantissa * 2^exponent.
+pub struct Magnitude {
+    pub mantissa: u64,
+    pub exponent: BitExponent,
+}
 
 // The width less the leading zeros: the least number of bits that hold the value.
 pub fn significant_bits(value: u64) -> u32
@@ -29,16 +29,39 @@ pub fn significant_bits(value: u64) -> u32
     64 - u64::leading_zeros(value)
 }
 
-// s: the exponent of the value's leading bit, and 0 for zero.
-pub fn sci_exp(value: Magnitude) -> BitExponent
-    ensures { λ r. ⌜ r .0 ≡ scale (value .mantissa) (value .exponent) ⌝ }
-    ensures leading { λ r. ⌜ (0 < value .mantissa → LeadingBit (value .mantissa) (value .exponent) (r .0)) ⌝ }
+// An exponent in bits, of a number that may be past what 32 bits hold: there it is the end that the number is past. No float's exponent is.
+fn clamped(value: i64) -> BitExponent
+    ensures { λ r. ⌜ r .0 ≡ clamped value ⌝ }
 {
+    if value > 2147483647 {
+        return BitExponent(2147483647);
+    }
+    if value < -2147483648 {
+        return BitExponent(-2147483648);
+    }
+    BitExponent(value as i32)
+}
+
+// The exponent of a mantissa that lost so many low bits, or of a bit that stands so many above the lowest. The sum is taken at twice the width, where it has room.
+pub fn raised(exponent: BitExponent, bits: u32) -> BitExponent
+    ensures { λ r. ⌜ r .0 ≡ clamped (exponent .0 +ℤ pos bits) ⌝ }
+{
+    let from = exponent.0 as i64;
+    let more = bits as i64;
+    clamped(from + more)
+}
+
+// s: the exponent of the value's leading bit, and 0 for zero. What it says of the value holds wherever 32 bits hold s.
+pub fn sci_exp(value: Magnitude) -> BitExponent
+    ensures { λ r. ⌜ r .0 ≡ clamped (scale (value .mantissa) (value .exponent .0)) ⌝ }
+    ensures leading { λ r. ⌜ (0 < value .mantissa → clamped (scale (value .mantissa) (value .exponent .0)) ≡ scale (value .mantissa) (value .exponent .0) → LeadingBit (value .mantissa) (value .exponent .0) (r .0)) ⌝ }
+{
+    let exponent = value.exponent;
     let bits = significant_bits(value.mantissa);
     if bits == 0 {
         return BitExponent(0);
     }
-    BitExponent(value.exponent as i32 + (bits - 1) as i32)
+    raised(exponent, bits - 1)
 }
 
 // The magnitude of a signed number: -1 - value has room where -value has none, at the least number.
@@ -158,4 +181,16 @@ pub fn is_below(exponent: BitExponent, other: BitExponent) -> bool
     ensures { λ r. ⌜ r ≡ ltZ (exponent .0) (other .0) ⌝ }
 {
     exponent.0 < other.0
+}
+
+// How many bits an exponent stands above another, and 0 where it does not. The difference is taken at twice the width, where it has room.
+pub fn height_above(exponent: BitExponent, other: BitExponent) -> u32
+    ensures { λ r. ⌜ r ≡ heightAbove (exponent .0) (other .0) ⌝ }
+{
+    let upper = exponent.0;
+    let lower = other.0;
+    if upper < lower {
+        return 0;
+    }
+    (upper as i64 - lower as i64) as u32
 }

@@ -98,23 +98,23 @@ float-near f (suc m) e t =
     (lt-of-lt-of-le (size-lt (suc m)) (pow-mono {i = size (suc m)} {j = 60} (omega (arith, r .few))), between-wider 1074 1023 4000 4000 e (omega arith) (omega arith) (r .low-end))
 
 -- ---- a float's parts in the code: their normal form r, and t, which the digit limit made of it
-module _ (v : Magnitude) (P : FloatParts v) (r : Magnitude) (q : ofMagnitude r ≡ normal (v .mantissa) (v .exponent)) where
+module _ (v : Magnitude) (P : FloatParts v) (r : Magnitude) (q : ofMagnitude r ≡ normal (v .mantissa) (v .exponent .0)) where
   mantissa-is : r .mantissa ≡ P .m
   mantissa-is = ap (λ (x : Value). x .m) (q ∙ P .is)
 
-  exponent-is : r .exponent ≡ P .e
+  exponent-is : r .exponent .0 ≡ P .e
   exponent-is = ap (λ (x : Value). x .e) (q ∙ P .is)
 
-  pub normal-near : (r .mantissa < 2 ^ 60) × Between 4000 4000 (r .exponent)
+  pub normal-near : (r .mantissa < 2 ^ 60) × Between 4000 4000 (r .exponent .0)
   normal-near = rw (mantissa-is, exponent-is) (float-near (P .width) (P .m) (P .e) (P .fits-width))
 
-  pub limited-near : (mode : RoundMode) (b k : ℕ) (t : Magnitude) → 0 < b → ofMagnitude t ≡ limited mode b k (r .mantissa) (r .exponent) → Ranged (t .mantissa) (t .exponent)
+  pub limited-near : (mode : RoundMode) (b k : ℕ) (t : Magnitude) → 0 < b → ofMagnitude t ≡ limited mode b k (r .mantissa) (r .exponent .0) → Ranged (t .mantissa) (t .exponent .0)
   limited-near mode b k t B l =
       let w : ofMagnitude t ≡ limited mode b k (P .m) (P .e) = l ∙ ap₂ (limited mode b k) mantissa-is exponent-is in
       subst (λ (x : Value). Ranged (x .m) (x .e)) (sym w) (limited-fits (P .width) mode b k (P .m) (P .e) B (P .fits-width))
 
-  pub limited-text : (F : NumberFormat) (o : Options) (c : CheckedFormat) (t : Magnitude) → ofMagnitude t ≡ limited (o .«round_mode») (c .b) (o .«max_significant_digits») (r .mantissa) (r .exponent)
-      → text F o (rowOf c) (t .mantissa) (t .exponent) ≡ magnitudeText F o c v
+  pub limited-text : (F : NumberFormat) (o : Options) (c : CheckedFormat) (t : Magnitude) → ofMagnitude t ≡ limited (o .«round_mode») (c .b) (o .«max_significant_digits») (r .mantissa) (r .exponent .0)
+      → text F o (rowOf c) (t .mantissa) (t .exponent .0) ≡ magnitudeText F o c v
   unfolding limitedText
   limited-text F o c t l =
       ap (λ (x : Value). text F o (rowOf c) (x .m) (x .e)) l

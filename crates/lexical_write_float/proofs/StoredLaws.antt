@@ -1,42 +1,34 @@
--- Numbers as the code holds them: an exponent of 16 bits, and a unit and its mask in 64. Assumes nothing.
-use Prim.Native.Nat.{ℕ, _+_, _-_, _*_, _%_, _≤_, _<_, _^_}
+-- Numbers as the code holds them: an exponent in 32 bits, and a unit and its mask in 64. Assumes nothing.
+use Prim.Native.Nat.{ℕ, zero, suc, _+_, _-_, _*_, _%_, _≤_, _<_, _^_}
 use mathlib.Core.Path.{_≡_}
 use native.Mathlib.Nat.{mod-lt}
 use native.Mathlib.Omega.{arith}
 use lib.IntN.{ℤ, pos, negsuc, _+ℤ_}
-use mir.Syntax.{w16}
-use mir.Val.{SFits, toZ, ofZ}
-use mir.Facts.{toZ-ofZ, toZ-pos}
-use Rattle.lexical_text.specs.Range.{Between}
+use lib.Signed.{mag}
 use lib.Bits.{bitAnd}
+use lib.Ieee.{size}
+use lib.Ieee.Digits.{size-le}
+use Rattle.lexical_util.specs.Exponent.{clamped, scale}
+use Rattle.lexical_util.proofs.ExponentLaws.{clamped-is}
+use Rattle.lexical_text.specs.Range.{Between}
 use Rattle.lexical_write_integer.proofs.FillLaws.{shifted, masked}
 use lib.Pow.{pow-lt, pow-pos}
 use Rattle.lexical_text.proofs.Integers.{between-more, between-wider}
 
--- ---- an exponent of 16 bits, up to 64 higher
-near-fits : (z : ℤ) → Between 8000 8064 z → SFits w16 z
-near-fits (pos n) h = record { sfits = omega arith }
-near-fits (negsuc n) h = record { sfits = omega arith }
+-- ---- an exponent that is not far from 0, and some bits higher, is within what 32 bits hold
+near-few : (least most : ℕ) (e : ℤ) → least ≤ 20000 → most ≤ 20000 → Between least most e → mag e < 2147483648
+near-few least most (pos n) l m h = omega arith
+near-few least most (negsuc n) l m h = omega arith
 
--- as the code hands it on
-pub stored-is : (e : ℤ) → Between 8000 8000 e → toZ w16 (ofZ w16 e) ≡ e
-stored-is e h = toZ-ofZ (near-fits e (between-wider 8000 8000 8000 8064 e (omega arith) (omega arith) h))
+pub near-held : (least most : ℕ) (e : ℤ) → least ≤ 20000 → most ≤ 20000 → Between least most e → clamped e ≡ e
+near-held least most e l m h = clamped-is e (near-few least most e l m h)
 
-module _ (e : ℤ) (n : ℕ) (h : Between 8000 8000 e) (l : n ≤ 64) where
-  higher-fits : SFits w16 (e +ℤ pos n)
-  higher-fits = near-fits (e +ℤ pos n) (between-wider 8000 (8000 + n) 8000 8064 (e +ℤ pos n) (omega arith) (omega arith) (between-more 8000 8000 n e h))
+pub raised-is : (e : ℤ) (n : ℕ) → Between 8000 8000 e → n ≤ 64 → clamped (e +ℤ pos n) ≡ e +ℤ pos n
+raised-is e n h l = near-held 8000 (8000 + n) (e +ℤ pos n) (omega arith) (omega arith) (between-more 8000 8000 n e h)
 
-  sum-is : toZ w16 (ofZ w16 e) +ℤ toZ w16 n ≡ e +ℤ pos n
-  sum-is = rw (stored-is e h, toZ-pos w16 {n = n} (omega arith))
-
-  pub sum-fits : SFits w16 (toZ w16 (ofZ w16 e) +ℤ toZ w16 n)
-  sum-fits = rw sum-is higher-fits
-
-  pub sum-stored : toZ w16 (ofZ w16 (toZ w16 (ofZ w16 e) +ℤ toZ w16 n)) ≡ e +ℤ pos n
-  sum-stored = rw sum-is (toZ-ofZ higher-fits)
-
-  pub raised-stored : (r : ℤ) → r ≡ toZ w16 (ofZ w16 e) +ℤ pos n → toZ w16 (ofZ w16 r) ≡ e +ℤ pos n
-  raised-stored r k = rw (k, stored-is e h) (toZ-ofZ higher-fits)
+pub scale-held : (m : ℕ) (e : ℤ) → m < 2 ^ 60 → Between 8000 8000 e → clamped (scale m e) ≡ scale m e
+scale-held zero e h n = clamped-is (pos 0) (omega arith)
+scale-held (suc m) e h n = raised-is e (size (suc m) - 1) n (omega (arith, size-le (suc m) 60 h))
 
 pub raised-near : (e : ℤ) (n : ℕ) → Between 4000 4000 e → n ≤ 64 → Between 8000 8000 (e +ℤ pos n)
 raised-near e n h l = between-wider 4000 (4000 + n) 8000 8000 (e +ℤ pos n) (omega arith) (omega arith) (between-more 4000 4000 n e h)

@@ -31,7 +31,7 @@ use Rattle.lexical_text.specs.Write.{limitedText}
 -- ---- values
 -- the value that a magnitude stands for
 abbrev pub ofMagnitude : Magnitude → Value
-ofMagnitude v = record { m = v .mantissa; e = v .exponent }
+ofMagnitude v = record { m = v .mantissa; e = v .exponent .0 }
 
 -- the parts of a finite float with the sign bit clear, of either width
 pub record FloatParts (v : Magnitude) : Type 0 where
@@ -39,8 +39,8 @@ pub record FloatParts (v : Magnitude) : Type 0 where
   pub m : ℕ
   pub e : ℤ
   pub fits-width : T (fits width (fin false m e))
-  pub is : normal (v .mantissa) (v .exponent) ≡ record { m = m; e = e }
-  pub near : Between 8000 8000 (v .exponent)
+  pub is : normal (v .mantissa) (v .exponent .0) ≡ record { m = m; e = e }
+  pub near : Between 8000 8000 (v .exponent .0)
 
 -- ---- a format that passed the check with this answer
 pub record Passed (F : NumberFormat) (o : Options) (checked : CheckedFormat) : Type 0 where
@@ -120,7 +120,7 @@ pub record Puts (held : List ℕ) (at : ℕ) (t : List ℕ) (next : ℕ) (out : 
 
 -- ---- the text of a magnitude: of the float that has it
 abbrev pub magnitudeText : NumberFormat → Options → CheckedFormat → Magnitude → List ℕ
-magnitudeText F o checked v = let x = normal (v .mantissa) (v .exponent) in limitedText F o (rowOf checked) (x .m) (x .e)
+magnitudeText F o checked v = let x = normal (v .mantissa) (v .exponent .0) in limitedText F o (rowOf checked) (x .m) (x .e)
 
 -- what the parts of a float are asked for: 7 for all but a finite float with the sign bit clear
 abbrev pub partsText : NumberFormat → Options → CheckedFormat → Parts → Answer (List ℕ)

@@ -7,7 +7,7 @@ ghost use Rattle.lexical_text.specs.Limit.{rounded, limited};
 ghost use Rattle.lexical_text.specs.Range.{Between};
 ghost use Rattle.lexical_write_float.specs.Code.{ofMagnitude, IsPlan};
 ghost use mathlib.Core.List.{List};
-ghost use lib.IntN.{pos, natAbs, _+ℤ_};
+ghost use lib.IntN.{natAbs};
 ghost use Rattle.lexical_format.specs.declared.format.NumberFormat.{NumberFormat};
 ghost use Rattle.lexical_text.specs.Text.{point, negative, positive};
 use crate::plan::Plan;
@@ -18,29 +18,22 @@ use lexical_util::BitExponent;
 use lexical_util::DigitExponent;
 use lexical_util::Magnitude;
 use lexical_util::calculate_shl;
+use lexical_util::raised;
 use lexical_util::sci_exp;
 use lexical_util::significant_bits;
 use lexical_util::zeros_behind_point;
 
-// The exponent of a mantissa that lost so many low bits.
-fn raised(exponent: i16, bits: u32) -> i16
-    requires { ⌜ Between 8000 8000 exponent × (bits ≤ 64) ⌝ }
-    ensures { λ r. ⌜ r ≡ exponent +ℤ pos bits ⌝ }
-{
-    exponent + bits as i16
-}
-
 // The normal form of a value: the mantissa odd, or both zero.
 pub(crate) fn normalized(value: Magnitude) -> Magnitude
-    requires { ⌜ Between 8000 8000 (value .exponent) ⌝ }
-    ensures { λ r. ⌜ ofMagnitude r ≡ normal (value .mantissa) (value .exponent) ⌝ }
+    requires { ⌜ Between 8000 8000 (value .exponent .0) ⌝ }
+    ensures { λ r. ⌜ ofMagnitude r ≡ normal (value .mantissa) (value .exponent .0) ⌝ }
 {
     let mantissa = value.mantissa;
     let exponent = value.exponent;
     if mantissa == 0 {
         return Magnitude {
             mantissa: 0,
-            exponent: 0,
+            exponent: BitExponent(0),
         };
     }
     let zeros = u64::trailing_zeros(mantissa);
@@ -90,8 +83,8 @@ pub(crate) fn truncate_and_round(
     digits: u32,
     mode: RoundMode,
 ) -> Magnitude
-    requires { ⌜ (value .mantissa < 2 ^ 60) × Between 4000 4000 (value .exponent) × (0 < «bits_per_digit») × («bits_per_digit» ≤ 5) × (digits ≤ 1200) ⌝ }
-    ensures { λ r. ⌜ ofMagnitude r ≡ limited mode «bits_per_digit» digits (value .mantissa) (value .exponent) ⌝ }
+    requires { ⌜ (value .mantissa < 2 ^ 60) × Between 4000 4000 (value .exponent .0) × (0 < «bits_per_digit») × («bits_per_digit» ≤ 5) × (digits ≤ 1200) ⌝ }
+    ensures { λ r. ⌜ ofMagnitude r ≡ limited mode «bits_per_digit» digits (value .mantissa) (value .exponent .0) ⌝ }
 {
     let mantissa = value.mantissa;
     let exponent = value.exponent;

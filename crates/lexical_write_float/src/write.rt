@@ -43,9 +43,10 @@ use lexical_util::sci_exp;
 // D of a value: the mantissa is shifted up by e mod b, and what is left of e is a whole number of digits.
 fn digits_of(value: Magnitude, bits_per_digit: u32) -> Digits
     requires { ⌜ (0 < «bits_per_digit») × («bits_per_digit» ≤ 5) × (value .mantissa < 2 ^ 54) ⌝ }
-    ensures { λ r. ⌜ (digitsOf r ≡ exactDigits «bits_per_digit» (value .mantissa) (value .exponent)) × Counted r ⌝ }
+    ensures { λ r. ⌜ (digitsOf r ≡ exactDigits «bits_per_digit» (value .mantissa) (value .exponent .0)) × Counted r ⌝ }
 {
-    let shl = calculate_shl(BitExponent(value.exponent as i32), bits_per_digit);
+    let exponent = value.exponent;
+    let shl = calculate_shl(exponent, bits_per_digit);
     let shifted = value.mantissa << shl;
     Digits {
         value: shifted,
@@ -62,7 +63,7 @@ struct Placed {
 
 fn place_digits(value: Magnitude, s: BitExponent, bits_per_digit: u32) -> Placed
     requires { ⌜ (0 < «bits_per_digit») × («bits_per_digit» ≤ 5) × (value .mantissa < 2 ^ 54) ⌝ }
-    ensures { λ r. ⌜ IsPlaced (value .mantissa) (value .exponent) (s .0) «bits_per_digit» r ⌝ }
+    ensures { λ r. ⌜ IsPlaced (value .mantissa) (value .exponent .0) (s .0) «bits_per_digit» r ⌝ }
 {
     let p = digit_exponent(s, bits_per_digit);
     let digits = digits_of(value, bits_per_digit);
@@ -72,7 +73,7 @@ fn place_digits(value: Magnitude, s: BitExponent, bits_per_digit: u32) -> Placed
 // The same by five constants: p, the shift and the count of digits each divide by the bits of a digit, and the compiler then chooses once for the three.
 fn place_by_bits(value: Magnitude, s: BitExponent, bits_per_digit: u32) -> Placed
     requires { ⌜ (0 < «bits_per_digit») × («bits_per_digit» ≤ 5) × (value .mantissa < 2 ^ 54) ⌝ }
-    ensures { λ r. ⌜ IsPlaced (value .mantissa) (value .exponent) (s .0) «bits_per_digit» r ⌝ }
+    ensures { λ r. ⌜ IsPlaced (value .mantissa) (value .exponent .0) (s .0) «bits_per_digit» r ⌝ }
 {
     match bits_per_digit {
         1 => place_digits(value, s, 1),
@@ -121,9 +122,9 @@ fn write_value(
     checked: CheckedFormat,
     buffer: &mut [u8],
 ) -> usize
-    requires { ⌜ Passed format options checked × Ranged (value .mantissa) (value .exponent) ⌝ }
-    ensures { λ r. ⌜ r ≡ length (text format options (rowOf checked) (value .mantissa) (value .exponent)) ⌝ }
-    ensures { λ _. ⌜ now (buffer .exit) ≡ held (done (text format options (rowOf checked) (value .mantissa) (value .exponent))) (now (buffer .entry)) ⌝ }
+    requires { ⌜ Passed format options checked × Ranged (value .mantissa) (value .exponent .0) ⌝ }
+    ensures { λ r. ⌜ r ≡ length (text format options (rowOf checked) (value .mantissa) (value .exponent .0)) ⌝ }
+    ensures { λ _. ⌜ now (buffer .exit) ≡ held (done (text format options (rowOf checked) (value .mantissa) (value .exponent .0))) (now (buffer .entry)) ⌝ }
 {
     let s = sci_exp(value);
     let placed = place_by_bits(value, s, checked.b);

@@ -25,16 +25,16 @@ shr-biased c = L.shift-fits (f (c .before .before)) _ (c .before .encoding-of .e
 returns : tie.Need-returns
 returns c = let k = c .before .before .before in L.denormal-is (f (k .before)) _ (k .encoding-of .ensures) _ (k .before .pre) (c .before .if1 .taken)
 
-add-t7 : tie.Need-add-t7
-add-t7 c =
+add-t8 : tie.Need-add-t8
+add-t8 c =
     let k = c .before .before in
     omega (arith, L.hidden-few (f (k .before)) _ (k .encoding-of .ensures), L.stored-few (f (k .before)) _ (k .encoding-of .ensures) _ (k .before .pre))
 
-cast-t9 : tie.Need-cast-t9
-cast-t9 c = let k = c .before .before in L.biased-fits (f (k .before)) _ (k .encoding-of .ensures) _ (k .before .pre)
+cast-t10 : tie.Need-cast-t10
+cast-t10 c = let k = c .before .before in L.biased-fits (f (k .before)) _ (k .encoding-of .ensures) _ (k .before .pre)
 
-sub-t10 : tie.Need-sub-t10
-sub-t10 c = let k = c .before .before .before .before in L.exponent-fits (f (k .before)) _ (k .encoding-of .ensures) _ (k .before .pre)
+sub-t11 : tie.Need-sub-t11
+sub-t11 c = let k = c .before .before .before .before in L.exponent-fits (f (k .before)) _ (k .encoding-of .ensures) _ (k .before .pre)
 
 returns-2 : tie.Need-returns-2
 returns-2 c = let k = c .before .before .before .before in L.normal-is (f (k .before)) _ (k .encoding-of .ensures) _ (k .before .pre) (c .before .before .if1 .left)
@@ -48,7 +48,7 @@ magnitude-of-bits-spec =
     cast-biased
     shr-biased
     returns
-    add-t7
-    cast-t9
-    sub-t10
+    add-t8
+    cast-t10
+    sub-t11
     returns-2)

@@ -11,7 +11,7 @@ use Rattle.lexical_pack.proofs.pattern.bits_of_parts.Tie as tie
 abbrev f : tie.Start → Format
 f c = formatOf (c .args .width)
 
-found : (c : tie.After-below) → BitsOf (f (c .before .before .before)) (c .before .before .before .args .value .mantissa) (c .before .before .before .args .value .exponent) (c .below .given .0 .0)
+found : (c : tie.After-below) → BitsOf (f (c .before .before .before)) (c .before .before .before .args .value .mantissa) (c .before .before .before .args .value .exponent .0) (c .below .given .0 .0)
 found c = subst (IsBits (f (c .before .before .before)) _ _) (c .below .given .1) (c .before .before .bits-of-magnitude .ensures)
 
 bits-of-magnitude-requires : tie.Need-bits-of-magnitude-requires

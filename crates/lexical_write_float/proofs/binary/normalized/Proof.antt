@@ -6,7 +6,7 @@ use native.Mathlib.Omega.{arith}
 use borrow.Author.Needs.{needs}
 use lib.Count.{trailingZeros}
 use lib.IntN.{ℤ}
-use Rattle.lexical_write_float.proofs.StoredLaws.{stored-is, raised-stored}
+use Rattle.lexical_write_float.proofs.StoredLaws.{raised-is}
 use Rattle.lexical_text.proofs.ValueLaws.{trailing-lt, normal-trailing, normal-zero}
 use Rattle.lexical_write_float.proofs.binary.normalized.Statement.{statement}
 use Rattle.lexical_write_float.proofs.binary.normalized.Tie as tie
@@ -24,15 +24,15 @@ shr-odd : tie.Need-shr-odd
 shr-odd c = few c
 
 raised-requires : tie.Need-raised-requires
-raised-requires c κs = let s = c .before .before in (rw (stored-is (s .args .value .exponent) (s .pre)) (s .pre), omega (arith, few c))
+raised-requires c κs = tt
 
 returns-2 : tie.Need-returns-2
 returns-2 c =
     let s = c .before .before .before in
     let v = s .args .value in
     let t = trailingZeros 64 (v .mantissa) in
-    ap (λ (e : ℤ). record { m = v .mantissa / 2 ^ t; e = e }) (raised-stored (v .exponent) t (s .pre) (omega (arith, few (c .before))) _ (c .raised .ensures))
-    ∙ normal-trailing 64 (v .mantissa) (pos-of-ne-zero (c .before .if1 .left)) (search needs) (v .exponent)
+    ap (λ (e : ℤ). record { m = v .mantissa / 2 ^ t; e = e }) (c .raised .ensures ∙ raised-is (v .exponent .0) t (s .pre) (omega (arith, few (c .before))))
+    ∙ normal-trailing 64 (v .mantissa) (pos-of-ne-zero (c .before .if1 .left)) (search needs) (v .exponent .0)
 
 pub normalized-spec : {M : Type 1} → statement M
 normalized-spec = tie.close (tie.spec returns cast-odd shr-odd raised-requires returns-2)

@@ -5,8 +5,6 @@ use native.Mathlib.Nat.{pos-of-ne-zero}
 use native.Mathlib.Omega.{arith}
 use borrow.Author.Needs.{needs}
 use lib.IntN.{ℤ, pos, _+ℤ_}
-use mir.Syntax.{w16}
-use mir.Val.{toZ, ofZ}
 use lib.Ieee.{size}
 use lib.Ieee.Digits.{size-le}
 use Rattle.lexical_util.specs.Exponent.{scale, modulo}
@@ -14,10 +12,13 @@ use Rattle.lexical_util.proofs.PowerLaws.{size-pos}
 use Rattle.lexical_text.specs.Value.{normal}
 use Rattle.lexical_text.specs.Range.{Between}
 use Rattle.lexical_text.proofs.Integers.{between-wider}
-use Rattle.lexical_write_float.proofs.StoredLaws.{stored-is, raised-stored, raised-near}
+use Rattle.lexical_write_float.proofs.StoredLaws.{raised-is, scale-held, raised-near}
 use Rattle.lexical_text.proofs.LimitLaws.{limited-none, limited-zero, kept, limited-kept, limited-cut}
 use Rattle.lexical_write_float.proofs.binary.truncate_and_round.Statement.{statement}
 use Rattle.lexical_write_float.proofs.binary.truncate_and_round.Tie as tie
+
+near : (c : tie.Start) → Between 8000 8000 (c .args .value .exponent .0)
+near c = between-wider 4000 4000 8000 8000 (c .args .value .exponent .0) (omega arith) (omega arith) (c .pre .1)
 
 abbrev start : tie.After-kept-bits → tie.Start
 start c = c .before .before .before .before .before
@@ -25,8 +26,8 @@ start c = c .before .before .before .before .before
 some : (c : tie.After-kept-bits) → 0 < start c .args .value .mantissa
 some c = pos-of-ne-zero (c .before .before .if2 .left)
 
-keep-is : (c : tie.After-kept-bits) → let a = start c .args in c .kept-bits .result ≡ kept (a .bits-per-digit) (a .digits) (scale (a .value .mantissa) (a .value .exponent))
-keep-is c = let a = start c .args in c .kept-bits .ensures ∙ ap (λ (s : ℤ). a .bits-per-digit * (a .digits - 1) + modulo s (a .bits-per-digit)) (c .before .sci-exp .ensures .0)
+keep-is : (c : tie.After-kept-bits) → let a = start c .args in c .kept-bits .result ≡ kept (a .bits-per-digit) (a .digits) (scale (a .value .mantissa) (a .value .exponent .0))
+keep-is c = let a = start c .args in c .kept-bits .ensures ∙ ap (λ (s : ℤ). a .bits-per-digit * (a .digits - 1) + modulo s (a .bits-per-digit)) (c .before .sci-exp .ensures .0 ∙ scale-held (a .value .mantissa) (a .value .exponent .0) (start c .pre .0) (near (start c)))
 
 -- one bit at least, and 60 at most
 bits : (c : tie.After-significant-bits) → let m = start (c .before) .args .value .mantissa in (c .significant-bits .result ≡ size m) × (0 < size m) × (size m ≤ 60)
@@ -41,17 +42,14 @@ cut c = c .significant-bits .result - 1 - c .before .kept-bits .result
 few : (c : tie.After-significant-bits) → cut c ≤ 64
 few c = omega (arith, bits c)
 
-near : (c : tie.Start) → Between 8000 8000 (c .args .value .exponent)
-near c = between-wider 4000 4000 8000 8000 (c .args .value .exponent) (omega arith) (omega arith) (c .pre .1)
-
-higher : (c : tie.After-raised) → let g = c .before .before .before in toZ w16 (ofZ w16 (c .raised .result)) ≡ start (g .before) .args .value .exponent +ℤ pos (cut g)
-higher c = let g = c .before .before .before in let s = start (g .before) in raised-stored (s .args .value .exponent) (cut g) (near s) (few g) _ (c .raised .ensures)
+higher : (c : tie.After-raised) → let g = c .before .before .before in c .raised .result .0 ≡ start (g .before) .args .value .exponent .0 +ℤ pos (cut g)
+higher c = let g = c .before .before .before in let s = start (g .before) in c .raised .ensures ∙ raised-is (s .args .value .exponent .0) (cut g) (near s) (few g)
 
 returns : tie.Need-returns
-returns c = let a = c .before .before .args in limited-none (a .mode) (a .bits-per-digit) (a .digits) (a .value .mantissa) (a .value .exponent) (c .if1 .taken)
+returns c = let a = c .before .before .args in limited-none (a .mode) (a .bits-per-digit) (a .digits) (a .value .mantissa) (a .value .exponent .0) (c .if1 .taken)
 
 returns-2 : tie.Need-returns-2
-returns-2 c = let a = c .before .before .before .args in limited-zero (a .mode) (a .bits-per-digit) (a .digits) (a .value .mantissa) (a .value .exponent) (c .if2 .taken)
+returns-2 c = let a = c .before .before .before .args in limited-zero (a .mode) (a .bits-per-digit) (a .digits) (a .value .mantissa) (a .value .exponent .0) (c .if2 .taken)
 
 sci-exp-requires : tie.Need-sci-exp-requires
 sci-exp-requires c κs = tt
@@ -73,7 +71,7 @@ returns-3 c =
     let g = c .before .before in
     let a = start (g .before) .args in
     c .normalized .ensures
-    ∙ sym (limited-kept (a .mode) (a .bits-per-digit) (a .digits) (a .value .mantissa) (a .value .exponent) (omega arith) (omega arith) (some (g .before)) (g .before .kept-bits .result) (keep-is (g .before)) (omega (arith, bits g)))
+    ∙ sym (limited-kept (a .mode) (a .bits-per-digit) (a .digits) (a .value .mantissa) (a .value .exponent .0) (omega arith) (omega arith) (some (g .before)) (g .before .kept-bits .result) (keep-is (g .before)) (omega (arith, bits g)))
 
 sub-cut : tie.Need-sub-cut
 sub-cut c = search needs
@@ -82,10 +80,10 @@ round-to-units-requires : tie.Need-round-to-units-requires
 round-to-units-requires c κs = (omega arith, omega (arith, bits (c .before)))
 
 raised-requires : tie.Need-raised-requires
-raised-requires c κs = let g = c .before .before in let s = start (g .before) in (rw (stored-is (s .args .value .exponent) (near s)) (near s), omega (arith, bits g))
+raised-requires c κs = tt
 
 normalized-requires-2 : tie.Need-normalized-requires-2
-normalized-requires-2 c κs = let g = c .before .before .before in let s = start (g .before) in rw (higher c) (raised-near (s .args .value .exponent) (cut g) (s .pre .1) (few g))
+normalized-requires-2 c κs = let g = c .before .before .before in let s = start (g .before) in rw (higher c) (raised-near (s .args .value .exponent .0) (cut g) (s .pre .1) (few g))
 
 returns-4 : tie.Need-returns-4
 returns-4 c =
@@ -93,7 +91,7 @@ returns-4 c =
     let a = start (g .before) .args in
     c .normalized2 .ensures
     ∙ ap₂ normal (c .before .before .round-to-units .ensures) (higher (c .before))
-    ∙ sym (limited-cut (a .mode) (a .bits-per-digit) (a .digits) (a .value .mantissa) (a .value .exponent) (omega arith) (omega arith) (some (g .before)) (g .before .kept-bits .result) (keep-is (g .before)) (cut g) (omega (arith, bits g)) (omega arith))
+    ∙ sym (limited-cut (a .mode) (a .bits-per-digit) (a .digits) (a .value .mantissa) (a .value .exponent .0) (omega arith) (omega arith) (some (g .before)) (g .before .kept-bits .result) (keep-is (g .before)) (cut g) (omega (arith, bits g)) (omega arith))
 
 pub truncate-and-round-spec : {M : Type 1} → statement M
 truncate-and-round-spec =

@@ -1,11 +1,7 @@
 -- `lexical_write_float::write::digits_of` meets its contract: the shifted mantissa fits, and spells D. Assumes nothing.
 use Prim.Native.Nat.{_≤_, _<_, ℕ, _*_, _%_, _^_}
-use lib.IntN.{ℤ}
-use Rattle.lexical_util.proofs.DifferenceLaws.{widened}
 use mathlib.Core.Path.{_≡_, sym, ap, _∙_}
 use native.Mathlib.Omega.{arith}
-use mir.Syntax.{w16}
-use mir.Val.{SFits}
 use lib.ListN.{length}
 use Rattle.lexical_digits.specs.Digits.{numeral}
 use Rattle.lexical_util.specs.Exponent.{modulo}
@@ -18,27 +14,21 @@ use borrow.Author.Needs.{needs}
 use Rattle.lexical_write_float.proofs.write.digits_of.Statement.{statement}
 use Rattle.lexical_write_float.proofs.write.digits_of.Tie as tie
 
-fitted : (c : tie.After-struct-told) → SFits w16 (c .before .before .args .value .exponent)
-fitted c = record { sfits = c .struct-told .given .1 .0 .1 }
-
 abbrev shifted : tie.After-calculate-shl → ℕ
-shifted c = c .before .before .before .args .value .mantissa * 2 ^ c .calculate-shl .result % 18446744073709551616
+shifted c = c .before .before .args .value .mantissa * 2 ^ c .calculate-shl .result % 18446744073709551616
 
 short : (c : tie.After-calculate-shl) → c .calculate-shl .result < 5
-short c = let s = c .before .before .before in omega (arith, c .calculate-shl .ensures .1 (s .pre .0), s .pre .1)
+short c = let s = c .before .before in omega (arith, c .calculate-shl .ensures .1 (s .pre .0), s .pre .1)
 
-shift-is : (c : tie.After-calculate-shl) → shifted c ≡ c .before .before .before .args .value .mantissa * 2 ^ modulo (c .before .before .before .args .value .exponent) (c .before .before .before .args .bits-per-digit)
+shift-is : (c : tie.After-calculate-shl) → shifted c ≡ c .before .before .args .value .mantissa * 2 ^ modulo (c .before .before .args .value .exponent .0) (c .before .before .args .bits-per-digit)
 shift-is c =
-    let s = c .before .before .before in
+    let s = c .before .before in
     let a = s .args in
     shift-fits (a .value .mantissa) (c .calculate-shl .result) (s .pre .2) (short c)
-    ∙ ap (λ (k : ℕ). a .value .mantissa * 2 ^ k) (c .calculate-shl .ensures .0 ∙ ap (λ (z : ℤ). modulo z (a .bits-per-digit)) (widened (a .value .exponent) (fitted (c .before)) .1))
-
-cast-t5 : tie.Need-cast-t5
-cast-t5 c = widened _ (fitted c) .0
+    ∙ ap (λ (k : ℕ). a .value .mantissa * 2 ^ k) (c .calculate-shl .ensures .0)
 
 calculate-shl-requires : tie.Need-calculate-shl-requires
-calculate-shl-requires c κs = search needs
+calculate-shl-requires c κs = tt
 
 cast-shifted : tie.Need-cast-shifted
 cast-shifted c = search needs
@@ -53,14 +43,13 @@ returns : tie.Need-returns
 unfolding exactDigits
 returns c =
     let k = c .before .before in
-    let s = k .before .before .before in
+    let s = k .before .before in
     let a = s .args in
     let n : c .digit-log .result ≡ length (numeral (2 ^ a .bits-per-digit) (shifted k)) = c .digit-log .ensures ∙ log-known _ _ (s .pre .0) ∙ sym (length-numeral (2 ^ a .bits-per-digit) (shifted k)) in
     let same = ap (numeral (2 ^ a .bits-per-digit)) (shift-is k) in
-    let few : length (numeral (2 ^ a .bits-per-digit) (a .value .mantissa * 2 ^ modulo (a .value .exponent) (a .bits-per-digit))) ≤ 64 = exact-few (a .bits-per-digit) (a .value .mantissa) (a .value .exponent) (s .pre .0) (s .pre .1) (s .pre .2) in
+    let few : length (numeral (2 ^ a .bits-per-digit) (a .value .mantissa * 2 ^ modulo (a .value .exponent .0) (a .bits-per-digit))) ≤ 64 = exact-few (a .bits-per-digit) (a .value .mantissa) (a .value .exponent .0) (s .pre .0) (s .pre .1) (s .pre .2) in
     (same, record { some-bits = s .pre .0; few-bits = s .pre .1; count-is = n; few = rw (n, same) few; small = rw (shift-fits (a .value .mantissa) (k .calculate-shl .result) (s .pre .2) (short k)) (shift-below (a .value .mantissa) (k .calculate-shl .result) (s .pre .2) (short k)) })
 
 pub digits-of-spec : {M : Type 1} → statement M
 digits-of-spec =
-    tie.close
-    (tie.spec cast-t5 calculate-shl-requires cast-shifted shl-shifted digit-log-requires returns)
+    tie.close (tie.spec calculate-shl-requires cast-shifted shl-shifted digit-log-requires returns)

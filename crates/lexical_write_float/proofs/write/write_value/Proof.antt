@@ -10,7 +10,9 @@ use Rattle.lexical_text.specs.Text.{point, layoutOf, text}
 use Rattle.lexical_write_float.specs.Code.{rowOf, digitsOf, planText, bodyText, tailText}
 use Rattle.lexical_text.proofs.RangeLaws.{place-near}
 use Rattle.lexical_text.proofs.LengthLaws.{power-few}
+use Rattle.lexical_write_float.proofs.StoredLaws.{near-held}
 use Rattle.lexical_write_float.proofs.TextLaws.{Known, known, counted-some, IsLaid, laid-text}
+use native.Mathlib.Omega.{arith}
 use borrow.Author.Needs.{needs}
 use Rattle.lexical_write_float.proofs.write.write_value.Statement.{statement}
 use Rattle.lexical_write_float.proofs.write.write_value.Tie as tie
@@ -21,15 +23,18 @@ start c = c .before .before .before
 format-known : (s : tie.Start) → Known (s .args .format) (s .args .options) (s .args .checked)
 format-known s = known _ _ _ (s .pre .0)
 
-place-is : (c : tie.After-place-by-bits) → c .place-by-bits .result .p .0 ≡ place (start c .args .checked .b) (scale (start c .args .value .mantissa) (start c .args .value .exponent))
-place-is c = c .place-by-bits .ensures .place-is ∙ ap (place (start c .args .checked .b)) (c .before .sci-exp .ensures .0)
+scale-is : (c : tie.After-place-by-bits) → let v = start c .args .value in c .before .sci-exp .result .0 ≡ scale (v .mantissa) (v .exponent .0)
+scale-is c = let s = start c in c .before .sci-exp .ensures .0 ∙ near-held 1074 1024 (scale (s .args .value .mantissa) (s .args .value .exponent .0)) (omega arith) (omega arith) (s .pre .1 .near)
+
+place-is : (c : tie.After-place-by-bits) → c .place-by-bits .result .p .0 ≡ place (start c .args .checked .b) (scale (start c .args .value .mantissa) (start c .args .value .exponent .0))
+place-is c = c .place-by-bits .ensures .place-is ∙ ap (place (start c .args .checked .b)) (scale-is c)
 
 near : (c : tie.After-place-by-bits) → natAbs (c .place-by-bits .result .p .0) ≤ 1074
-near c = let s = start c in rw (place-is c) (place-near (s .args .checked .b) (scale (s .args .value .mantissa) (s .args .value .exponent)) (s .pre .1 .near))
+near c = let s = start c in rw (place-is c) (place-near (s .args .checked .b) (scale (s .args .value .mantissa) (s .args .value .exponent .0)) (s .pre .1 .near))
 
 -- the text that the plan stands for
 abbrev whole : tie.Start → List ℕ
-whole s = text (s .args .format) (s .args .options) (rowOf (s .args .checked)) (s .args .value .mantissa) (s .args .value .exponent)
+whole s = text (s .args .format) (s .args .options) (rowOf (s .args .checked)) (s .args .value .mantissa) (s .args .value .exponent .0)
 
 abbrev placed : tie.After-plan-of → tie.After-place-by-bits
 placed c = c .before .before .before .before .before
@@ -42,7 +47,7 @@ planned : (c : tie.After-plan-of) → let d = placed c in let a = start d .args 
 planned c = c .plan-of .ensures .is _ (sym (placed c .place-by-bits .ensures .counted .count-is))
 
 laid : (c : tie.After-plan-of) → let d = placed c in let a = start d .args in
-    IsLaid (a .format) (a .options) (a .checked) (a .value .mantissa) (a .value .exponent) (digitsOf (d .place-by-bits .result .digits)) (d .place-by-bits .result .p .0) (c .before .before .digits-so-far .result) (c .before .choose-layout .result)
+    IsLaid (a .format) (a .options) (a .checked) (a .value .mantissa) (a .value .exponent .0) (digitsOf (d .place-by-bits .result .digits)) (d .place-by-bits .result .p .0) (c .before .before .digits-so-far .result) (c .before .choose-layout .result)
 laid c =
     let d = placed c in
     let s = start d in
@@ -52,7 +57,7 @@ laid c =
       digits-are = d .place-by-bits .ensures .digits-are;
       place-is = place-is d;
       so-far-is = c .before .before .digits-so-far .ensures (a .format) (a .options) _ (sym (d .place-by-bits .ensures .counted .count-is));
-      layout-is = c .before .choose-layout .ensures (a .options) (K .low) (K .high) ∙ ap (layoutOf (a .format) (a .options)) (d .before .sci-exp .ensures .0);
+      layout-is = c .before .choose-layout .ensures (a .options) (K .low) (K .high) ∙ ap (layoutOf (a .format) (a .options)) (scale-is d);
     }
 
 sci-exp-requires : tie.Need-sci-exp-requires
