@@ -1,13 +1,15 @@
 -- What is known of a format that passed its check. Assumes nothing.
-use Prim.Native.Nat.{ℕ, _*_, _/_, _^_, _≤_, _<_}
+use Prim.Native.Nat.{ℕ, zero, suc, _*_, _/_, _^_, _≤_, _<_}
 use mathlib.Core.Path.{_≡_, refl, sym, ap, _∙_, subst}
 use mathlib.Core.Bool.{Bool, true, false, cond, _&&_, _||_}
 use mathlib.Core.List.{List, [], _∷_, _++_}
 use mathlib.Core.Option.{Option, none, some}
+use native.Mathlib.Nat.{le-of-suc-le-suc, not-suc-le-zero}
 use native.Mathlib.Omega.{arith}
 use borrow.Author.Tests.{not-false, eqb-true, ltb-false}
 use lib.Dec.{T, ltb, leb, eqb, eqb→eq, ltb→lt, leb→le}
 use lib.IntN.{ℤ, natAbs}
+use lib.ListN.{length, getD}
 use lib.Ieee.Fits.{and-l, and-r}
 use Rattle.lexical_util.specs.Answer.{done, refused, Check, checked}
 use Rattle.lexical_util.specs.Digit.{isDigit, isRadix}
@@ -67,6 +69,14 @@ AllTested (p ∷ ps) = T (test p) × AllTested ps
 all-tested : AllTested pairs
 unfolding pairs
 all-tested = (tt, (tt, (tt, (tt, (tt, (tt, (tt, (tt, (tt, (tt, tt))))))))))
+
+row-tested : (rows : List Pair) (i : ℕ) (other : Pair) → i < length rows → AllTested rows → IsPair (getD rows i other)
+row-tested [] i other h all = absurd (not-suc-le-zero h)
+row-tested (p ∷ ps) zero other h all = tested p (all .0)
+row-tested (p ∷ ps) (suc i) other h all = row-tested ps i other (le-of-suc-le-suc h) (all .1)
+
+pub row-is-pair : (i : ℕ) (other : Pair) → i < length pairs → IsPair (getD pairs i other)
+row-is-pair i other h = row-tested pairs i other h all-tested
 
 none-some : {A : Type 0} (a : A) → none ≡ some a → ⊥
 none-some a e = let z : _≡_ {A = ℕ} 0 1 = cc in omega arith

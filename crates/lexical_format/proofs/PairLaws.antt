@@ -1,43 +1,35 @@
--- The table of pairs by the bits of the two numbers: case by case for the numbers that stand in it, and for all others at once. Assumes nothing.
-use Prim.Native.Nat.{ℕ}
-use mathlib.Core.Path.{_≡_, refl}
-use mathlib.Core.Bool.{cond}
-use mathlib.Core.Option.{Option, none, some}
-use borrow.Author.Tests.{eq-eqb, ne-eqb}
+-- The search of the table of pairs, row by row. Assumes nothing.
+use Prim.Native.Nat.{ℕ, _+_, _<_}
+use mathlib.Core.Path.{_≡_, refl, ap, _∙_}
+use mathlib.Core.Bool.{Bool, true, false, _&&_}
+use mathlib.Core.List.{List}
+use mathlib.Core.Option.{some}
+use native.Mathlib.Numerals.{add-one}
+use native.Mathlib.Omega.{arith}
+use borrow.Author.Tests.{eqb-true}
 use lib.Dec.{eqb}
-use Rattle.lexical_util.specs.Digit.{digitBits}
-use Rattle.lexical_util.proofs.BitsLaws.{each}
+use lib.ListN.{length, drop, getD}
+use lib.Seq.{drop-cons}
 use Rattle.lexical_format.specs.declared.format.Pair.{Pair}
-use Rattle.lexical_format.specs.Code.{baseBits}
-use Rattle.lexical_format.specs.Format.{pair, pairs, findPair}
+use Rattle.lexical_format.specs.Format.{pair, findPair}
 
-abbrev ByBits : ℕ → ℕ → ℕ → ℕ → Option Pair
-ByBits radix base b c = cond (eqb b 0) none (cond (eqb c 0) none (some (pair radix base b c)))
+-- a row by its radix and base, and its bits
+rebuilt : (p : Pair) (radix base : ℕ) → (eqb (p .radix) radix && eqb (p .base) base) ≡ true → pair radix base (p .b) (p .c) ≡ p
+rebuilt p radix base e = go (eqb (p .radix) radix) refl (eqb (p .base) base) refl e
+  where
+    go : (s : Bool) → eqb (p .radix) radix ≡ s → (t : Bool) → eqb (p .base) base ≡ t → (s && t) ≡ true → pair radix base (p .b) (p .c) ≡ p
+    go true q true r e = rw (← eqb-true (p .radix) radix q, ← eqb-true (p .base) base r)
+    go true q false r e = absurd (let z : _≡_ {A = ℕ} 0 1 = cc in omega arith)
+    go false q t r e = absurd (let z : _≡_ {A = ℕ} 0 1 = cc in omega arith)
 
-abbrev Found : ℕ → ℕ → Type 0
-Found radix base = ByBits radix base (digitBits radix) (baseBits radix base (digitBits radix)) ≡ findPair radix base pairs
+module _ (radix base : ℕ) (rows : List Pair) (i : ℕ) (other : Pair) (inside : i < length rows) where
+  abbrev wanted : Bool
+  wanted = eqb (getD rows i other .radix) radix && eqb (getD rows i other .base) base
 
-found : (radix base : ℕ) → Found radix base
-unfolding pairs findPair digitBits baseBits
-found =
-    each (λ radix. (base : ℕ) → Found radix base)
-    (each (Found 2) refl refl refl refl refl (λ n o. rw (o .not-2, o .not-4)))
-    (each (Found 4) refl refl refl refl refl (λ n o. rw (o .not-2, o .not-4)))
-    (each (Found 8) refl refl refl refl refl (λ n o. rw (o .not-2, o .not-4, o .not-8)))
-    (each (Found 16) refl refl refl refl refl (λ n o. rw (o .not-2, o .not-4, o .not-16)))
-    (each (Found 32) refl refl refl refl refl (λ n o. rw (o .not-2, o .not-4, o .not-32)))
-    (λ n o base. rw (o .not-2, o .not-4, o .not-8, o .not-16, o .not-32))
+  pub find-here : wanted ≡ true → some (pair radix base (getD rows i other .b) (getD rows i other .c)) ≡ findPair radix base (drop i rows)
+  unfolding findPair
+  find-here e = ap some (rebuilt (getD rows i other) radix base e) ∙ rw (drop-cons rows i other inside, e)
 
--- the row of a radix and a base, by what the code has of them
-module _ (radix base b c : ℕ) (radix-bits : b ≡ digitBits radix) (base-bits : c ≡ baseBits radix base b) where
-  row : ByBits radix base b c ≡ findPair radix base pairs
-  row = rw (base-bits, radix-bits) (found radix base)
-
-  pub no-radix : b ≡ 0 → none ≡ findPair radix base pairs
-  no-radix h = rw (eq-eqb b 0 h) at row
-
-  pub no-base : (b ≡ 0 → ⊥) → c ≡ 0 → none ≡ findPair radix base pairs
-  no-base h k = rw (ne-eqb b 0 h, eq-eqb c 0 k) at row
-
-  pub found-row : (b ≡ 0 → ⊥) → (c ≡ 0 → ⊥) → some (pair radix base b c) ≡ findPair radix base pairs
-  found-row h k = rw (ne-eqb b 0 h, ne-eqb c 0 k) at row
+  pub find-next : wanted ≡ false → findPair radix base (drop i rows) ≡ findPair radix base (drop (i + 1) rows)
+  unfolding findPair
+  find-next e = rw (add-one, drop-cons rows i other inside, e)

@@ -1,16 +1,12 @@
--- A pair by the bits of its two numbers, as the code finds it, and the reader's checks by the numbers that they look at. That these are document 01's is a law, not part of what is believed.
+-- The reader's checks by the numbers that they look at. That these are document 01's is a law, not part of what is believed.
 use Prim.Native.Nat.{ℕ}
-use mathlib.Core.Bool.{Bool, not, cond, _&&_, _||_}
+use mathlib.Core.Bool.{Bool, not, _||_}
 use mathlib.Core.List.{[], _∷_}
 use lib.Dec.{eqb}
 use Rattle.lexical_util.specs.Answer.{Answer}
 use Rattle.lexical_util.specs.Digit.{isRadix}
 use Rattle.lexical_format.specs.declared.format.Pair.{Pair}
 use Rattle.lexical_format.specs.Format.{pairs, findPair, badByte, checkedPair}
-
--- c of a radix of b bits and a base: the two equal, the base 2, or 16/4, and else 0
-unfoldable pub baseBits : ℕ → ℕ → ℕ → ℕ
-baseBits radix base b = cond (eqb radix base) b (cond (eqb 2 base) 1 (cond (eqb 4 base && eqb 16 radix) 2 0))
 
 -- 3 of a radix, a point and a mark
 abbrev pub badBytesOf : ℕ → ℕ → ℕ → Bool

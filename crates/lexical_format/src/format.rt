@@ -1,7 +1,9 @@
 // The part of a format that the Rust packs into its u128 parameter FORMAT: document 01, "Formats".
 ghost use mathlib.Core.Path.{_≡_};
+ghost use mathlib.Core.Bool.{_&&_};
+ghost use Prim.Native.Nat.{_≤_};
+ghost use lib.Dec.{eqb};
 ghost use Rattle.lexical_format.specs.Format.{pairs, findPair, ofFoundPair};
-ghost use Rattle.lexical_format.specs.Code.{baseBits};
 
 // A row of the table of pairs: a radix of b bits to a digit, and the base of the exponent, 2 to the power c.
 pub struct Pair {
@@ -27,33 +29,92 @@ pub(crate) enum FoundPair {
     Unknown,
 }
 
-// c of a radix of b bits and a base: the two are equal, the base is 2, or the pair is 16/4. It is 0 where the table has no such row.
-fn base_bits(radix: u32, base: u32, b: u32) -> u32
-    ensures { λ r. ⌜ r ≡ baseBits radix base b ⌝ }
+// The ten pairs: document 01, "One table lists the ten pairs with their two bit counts".
+const PAIRS: [Pair; 10] = [
+    Pair {
+        radix: 2,
+        base: 2,
+        b: 1,
+        c: 1,
+    },
+    Pair {
+        radix: 4,
+        base: 4,
+        b: 2,
+        c: 2,
+    },
+    Pair {
+        radix: 8,
+        base: 8,
+        b: 3,
+        c: 3,
+    },
+    Pair {
+        radix: 16,
+        base: 16,
+        b: 4,
+        c: 4,
+    },
+    Pair {
+        radix: 32,
+        base: 32,
+        b: 5,
+        c: 5,
+    },
+    Pair {
+        radix: 4,
+        base: 2,
+        b: 2,
+        c: 1,
+    },
+    Pair {
+        radix: 8,
+        base: 2,
+        b: 3,
+        c: 1,
+    },
+    Pair {
+        radix: 16,
+        base: 2,
+        b: 4,
+        c: 1,
+    },
+    Pair {
+        radix: 32,
+        base: 2,
+        b: 5,
+        c: 1,
+    },
+    Pair {
+        radix: 16,
+        base: 4,
+        b: 4,
+        c: 2,
+    },
+];
+
+// Whether a row is the one of a radix and a base. That no row has more than five bits is asked too, since the compiler then has b and c at hand where it compares: it unrolls the search and keeps no table.
+fn is_row(row: Pair, radix: u32, base: u32) -> bool
+    requires { ⌜ (row .b ≤ 5) × (row .c ≤ 5) ⌝ }
+    ensures { λ r. ⌜ r ≡ (eqb (row .radix) radix && eqb (row .base) base) ⌝ }
 {
-    if base == radix {
-        return b;
-    }
-    if base == 2 {
-        return 1;
-    }
-    if base != 4 {
-        return 0;
-    }
-    if radix == 16 { 2 } else { 0 }
+    row.radix == radix && row.base == base && row.b <= 5 && row.c <= 5
 }
 
-// A rule in place of a search: a constant table is built anew where it is used, and every call that writes or reads asks for a row.
+// The row of a radix and a base, by a search of the table.
 pub(crate) fn find_pair(radix: u32, base: u32) -> FoundPair
     ensures { λ r. ⌜ ofFoundPair r ≡ findPair radix base pairs ⌝ }
 {
-    let b = lexical_util::digit_bits(radix);
-    if b == 0 {
-        return FoundPair::Unknown;
+    let rows = PAIRS;
+    let mut i = 0;
+    while i < 10 {
+        let row = rows[i];
+        let b = row.b;
+        let c = row.c;
+        if is_row(row, radix, base) {
+            return FoundPair::Row(Pair { radix, base, b, c });
+        }
+        i += 1;
     }
-    let c = base_bits(radix, base, b);
-    if c == 0 {
-        return FoundPair::Unknown;
-    }
-    FoundPair::Row(Pair { radix, base, b, c })
+    FoundPair::Unknown
 }

@@ -1,8 +1,7 @@
 -- A text in a format that passed the reader's check: what the scan of it says of its shape, and what its bits stand for. Assumes nothing.
-use Prim.Native.Nat.{ℕ, zero, suc, _-_, _*_, _^_, _≤_, _<_}
+use Prim.Native.Nat.{ℕ, _-_, _^_, _≤_, _<_}
 use mathlib.Core.Path.{_≡_, refl, sym, ap, _∙_, subst}
 use mathlib.Core.List.{List, _++_}
-use native.Mathlib.Nat.{le-trans, suc-mul, zero-mul}
 use native.Mathlib.Omega.{arith}
 use borrow.Author.Tests.{lt-ltb, le-ltb}
 use lib.ListN.{length}
@@ -42,11 +41,6 @@ pub record Small (F : NumberFormat) (row : Pair) : Type 0 where
   pub some-power : 1 ≤ F .«exponent_radix»
   pub small-power : F .«exponent_radix» ≤ 32
 
--- c divides b, which is not 0
-divisor-le : (q c b : ℕ) → q * c ≡ b → 0 < b → c ≤ b
-divisor-le zero c b e h = absurd (let z = zero-mul c in omega arith)
-divisor-le (suc q) c b e h = let z = suc-mul q c in omega arith
-
 pub small : (F : NumberFormat) (o : Options) (row : Pair) → readingFormat F o ≡ done row → Small F row
 small F o row e =
     let r = readable F o row e in
@@ -55,7 +49,7 @@ small F o row e =
     record {
       small-radix = rw (r .radix-is) (pow-mono (p .few-bits));
       digit-bits = p .few-bits;
-      base-bits = le-trans (divisor-le _ (row .c) (row .b) (p .whole) (p .some-bits)) (p .few-bits);
+      base-bits = p .few-base-bits;
       some-power = omega arith;
       small-power = w .1;
     }

@@ -1,9 +1,8 @@
 -- The bits of a digit, case by case for the five radices that are powers of two, and for all other numbers at once. Assumes nothing.
 use Prim.Native.Nat.{ℕ, _^_, _≤_, _<_}
 use mathlib.Core.Path.{_≡_, refl}
-use mathlib.Core.Bool.{Bool, true, false}
+use mathlib.Core.Bool.{true, false}
 use mathlib.Core.Logic.{inl, inr}
-use borrow.Author.Tests.{eqb-true}
 use lib.Dec.{eqb, lit≤}
 use Rattle.lexical_util.specs.Digit.{isRadix, digitBits}
 use Rattle.lexical_util.proofs.RadixLaws.{Six, radix-six}
@@ -15,21 +14,6 @@ pub record Other (n : ℕ) : Type 0 where
   pub not-8 : eqb 8 n ≡ false
   pub not-16 : eqb 16 n ≡ false
   pub not-32 : eqb 32 n ≡ false
-
--- what holds for the five and for all others holds for every number
-pub each : (P : ℕ → Type 0) → P 2 → P 4 → P 8 → P 16 → P 32 → ((n : ℕ) → Other n → P n) → (n : ℕ) → P n
-each P p2 p4 p8 p16 p32 others n = go (eqb 2 n) refl (eqb 4 n) refl (eqb 8 n) refl (eqb 16 n) refl (eqb 32 n) refl
-  where
-    at : (k : ℕ) → P k → eqb k n ≡ true → P n
-    at k p e = rw (← eqb-true k n e) p
-
-    go : (a : Bool) → eqb 2 n ≡ a → (b : Bool) → eqb 4 n ≡ b → (c : Bool) → eqb 8 n ≡ c → (d : Bool) → eqb 16 n ≡ d → (e : Bool) → eqb 32 n ≡ e → P n
-    go true h b i c j d k e l = at 2 p2 h
-    go false h true i c j d k e l = at 4 p4 i
-    go false h false i true j d k e l = at 8 p8 j
-    go false h false i false j true k e l = at 16 p16 k
-    go false h false i false j false k true l = at 32 p32 l
-    go false h false i false j false k false l = others n (record { not-2 = h; not-4 = i; not-8 = j; not-16 = k; not-32 = l })
 
 pub digit-bits-other : (n : ℕ) → Other n → 0 ≡ digitBits n
 unfolding digitBits
