@@ -1,4 +1,5 @@
 pub mod EncodingLaws
 pub mod FloatLaws
 pub mod PartsLaws
+pub mod OrderLaws
 pub mod Worked

@@ -1,6 +1,7 @@
-// A float's parts, and where a bit pattern has them.
+// A float's parts, where a bit pattern has them, and the order of floats by value.
 pub mod encoding;
 pub mod num;
+pub mod order;
 
 pub use encoding::Encoding;
 pub use encoding::Width;
@@ -8,3 +9,4 @@ pub use encoding::encoding_of;
 pub use num::Parts;
 pub use num::parts_f32;
 pub use num::parts_f64;
+pub use order::less_f64;

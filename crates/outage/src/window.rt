@@ -2,6 +2,7 @@
 ghost use mathlib.Core.Path.{_≡_};
 ghost use mathlib.Core.Option.{none};
 ghost use Rattle.outage.specs.Window.{judged, ofCheckedWindow};
+use lexical_float::less_f64;
 use lexical_util::Refusal;
 
 pub struct Window {
@@ -19,7 +20,7 @@ pub enum CheckedWindow {
 pub fn check_window(window: Window) -> CheckedWindow
     ensures { λ r. ⌜ ofCheckedWindow r ≡ judged none window ⌝ }
 {
-    if window.end < window.start {
+    if less_f64(window.end, window.start) {
         return CheckedWindow::Refused(Refusal {
             number: 14,
             place: 0,
