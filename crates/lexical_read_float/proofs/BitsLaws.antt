@@ -1,15 +1,17 @@
 -- The value of a text, from what is kept of its digits and from its exponent. Assumes nothing.
 use Prim.Native.Nat.{ℕ, _+_, _*_, _^_, _≤_, _<_, min}
-use mathlib.Core.Path.{_≡_, refl, sym, ap, ap₂, _∙_}
+use mathlib.Core.Path.{_≡_, refl, sym, ap, ap₂, _∙_, subst}
 use mathlib.Core.Bool.{Bool, true, false, cond}
 use mathlib.Core.List.{List, _++_}
-use native.Mathlib.Nat.{mul-one}
 use native.Mathlib.Omega.{arith}
+use lib.IntN.{ℤ, pos, natAbs, _*ℤ_}
 use lib.Pow.{pow-add}
 use lib.ListN.{length}
 use lib.Ieee.{Float, Format}
 use Rattle.lexical_util.specs.Answer.{Answer, refused}
 use Rattle.lexical_util.specs.Digit.{AreDigits, digitsValue}
+use Rattle.lexical_util.specs.Exponent.{clamped, heightAbove, signed}
+use Rattle.lexical_util.proofs.ExponentLaws.{clamped-is, height-up, height-down, times-signed, signed-held}
 use Rattle.lexical_format.specs.declared.format.Pair.{Pair}
 use Rattle.lexical_reading.specs.Shape.{Shape}
 use Rattle.lexical_reading.specs.Read.{magnitude, isNegative, basePower, numerator, denominator, floatOf, valueOf}
@@ -26,61 +28,83 @@ abbrev pub spelled : Pair → Shape → ℕ
 spelled row s = digitsValue (2 ^ row .b) (s .whole ++ s .fraction)
 
 module _ (f : Format) (row : Pair) (power : ℕ) (t : List ℕ) (s : Shape) (n : Number) (is : n ≡ numberOf t (row .b) power s) where
-  cut : n .exponent .magnitude ≡ min (magnitude power (s .tail)) 32768
-  cut = ap (λ (x : Number). x .exponent .magnitude) is
+  cut : n .exponent .power .1 ≡ min (magnitude power (s .tail)) 32768
+  cut = ap (λ (x : Number). x .exponent .power .1) is
 
-  sign : n .exponent .negative ≡ isNegative (s .tail)
-  sign = ap (λ (x : Number). x .exponent .negative) is
+  sign : n .exponent .power .0 ≡ isNegative (s .tail)
+  sign = ap (λ (x : Number). x .exponent .power .0) is
 
-  pub refused-ten : 32767 < n .exponent .magnitude → refused 10 (n .exponent .place) ≡ valueOf f row power t s
+  counted : n .fraction .0 ≡ pos (length (s .fraction))
+  counted = ap (λ (x : Number). x .fraction .0) is
+
+  pub refused-ten : 32767 < n .exponent .power .1 → refused 10 (n .exponent .place) ≡ valueOf f row power t s
   refused-ten h =
       let c = cut in
       let m : 32767 < magnitude power (s .tail) = omega arith in
       ap (refused 10) (ap (λ (x : Number). x .exponent .place) is) ∙ sym (value-beyond f row power t s m)
 
-  value-is : n .exponent .magnitude ≤ 32767 → (a c : ℕ) → a ≡ numerator row power s → c ≡ denominator row power s → floatOf f a c ≡ valueOf f row power t s
-  value-is h a c p q =
-      let k = cut in
-      let m : magnitude power (s .tail) ≤ 32767 = omega arith in
-      ap₂ (floatOf f) p q ∙ sym (value-within f row power t s m)
+  module _ (few : row .b * natAbs (n .fraction .0) ≤ 20480) (h : n .exponent .power .1 ≤ 32767) (small : row .c * n .exponent .power .1 ≤ 163835) where
+    value-is : (a c : ℕ) → a ≡ numerator row power s → c ≡ denominator row power s → floatOf f a c ≡ valueOf f row power t s
+    value-is a c p q =
+        let k = cut in
+        let m : magnitude power (s .tail) ≤ 32767 = omega arith in
+        ap₂ (floatOf f) p q ∙ sym (value-within f row power t s m)
 
-  exact : n .exponent .magnitude ≤ 32767 → n .exponent .magnitude ≡ magnitude power (s .tail)
-  exact h = let k = cut in omega arith
+    exact : n .exponent .power .1 ≡ magnitude power (s .tail)
+    exact = let k = cut in omega arith
 
-  places : row .b * n .fraction ≡ row .b * length (s .fraction)
-  places = ap (λ (x : Number). row .b * x .fraction) is
+    -- the two exponents in bits, of which neither is past what 32 bits hold
+    abbrev pub places : ℤ
+    places = clamped (pos (row .b) *ℤ n .fraction .0)
 
-  scaled : n .exponent .magnitude ≤ 32767 → row .c * n .exponent .magnitude ≡ row .c * magnitude power (s .tail)
-  scaled h = ap (λ (m : ℕ). row .c * m) (exact h)
+    abbrev pub scaled : ℤ
+    scaled = clamped (pos (row .c) *ℤ signed (n .exponent .power .0) (n .exponent .power .1))
 
-  value-divided : (r : Answer Float) → n .exponent .magnitude ≤ 32767 → n .exponent .negative ≡ true
-      → r ≡ floatOf f (spelled row s * 2 ^ 0) (2 ^ (row .b * n .fraction + row .c * n .exponent .magnitude)) → r ≡ valueOf f row power t s
-  unfolding numerator denominator
-  value-divided r h e q =
-      q
-      ∙ value-is h _ _ (sym (ap (λ (b : Bool). spelled row s * cond b 1 (basePower row power s)) (sym sign ∙ e)))
-      (ap₂ (λ (x y : ℕ). 2 ^ (x + y)) places (scaled h) ∙ pow-add 2 _ _
-      ∙ sym (ap (λ (b : Bool). 2 ^ (row .b * length (s .fraction)) * cond b (basePower row power s) 1) (sym sign ∙ e)))
+    -- as the definition has them
+    abbrev behind : ℕ
+    behind = row .b * length (s .fraction)
 
-  value-multiplied : (r : Answer Float) → n .exponent .magnitude ≤ 32767 → n .exponent .negative ≡ false
-      → r ≡ floatOf f (spelled row s * 2 ^ (row .c * n .exponent .magnitude)) (2 ^ (row .b * n .fraction)) → r ≡ valueOf f row power t s
-  unfolding numerator denominator
-  value-multiplied r h e q =
-      q
-      ∙ value-is h _ _
-      (ap (λ (x : ℕ). spelled row s * 2 ^ x) (scaled h) ∙ sym (ap (λ (b : Bool). spelled row s * cond b 1 (basePower row power s)) (sym sign ∙ e)))
-      (ap (λ (x : ℕ). 2 ^ x) places ∙ sym (mul-one _) ∙ sym (ap (λ (b : Bool). 2 ^ (row .b * length (s .fraction)) * cond b (basePower row power s) 1) (sym sign ∙ e)))
+    abbrev lift : ℕ
+    lift = row .c * magnitude power (s .tail)
 
-  pub value-scaled : (r : Answer Float) (p : Powers) → n .exponent .magnitude ≤ 32767 → p ≡ powersOf (n .exponent .negative) (row .b * n .fraction) (row .c * n .exponent .magnitude)
-      → r ≡ floatOf f (spelled row s * 2 ^ p .up) (2 ^ p .down) → r ≡ valueOf f row power t s
-  value-scaled r p h e q = go (n .exponent .negative) refl e
-    where
-      by : (x : Powers) → p ≡ x → r ≡ floatOf f (spelled row s * 2 ^ x .up) (2 ^ x .down)
-      by x w = q ∙ ap (λ (y : Powers). floatOf f (spelled row s * 2 ^ y .up) (2 ^ y .down)) w
+    places-are : places ≡ pos behind
+    places-are =
+        let l : row .b * length (s .fraction) ≤ 20480 = subst (λ (z : ℤ). row .b * natAbs z ≤ 20480) counted few in
+        ap (λ (z : ℤ). clamped (pos (row .b) *ℤ z)) counted ∙ clamped-is (pos behind) (omega arith)
 
-      go : (b : Bool) → n .exponent .negative ≡ b → p ≡ powersOf b (row .b * n .fraction) (row .c * n .exponent .magnitude) → r ≡ valueOf f row power t s
-      go true w x = value-divided r h w (by _ x)
-      go false w x = value-multiplied r h w (by _ x)
+    scaled-is : (b : Bool) → isNegative (s .tail) ≡ b → scaled ≡ signed b lift
+    scaled-is b w =
+        let l : row .c * magnitude power (s .tail) ≤ 163835 = subst (λ (m : ℕ). row .c * m ≤ 163835) exact small in
+        ap₂ (λ (x : Bool) (m : ℕ). clamped (pos (row .c) *ℤ signed x m)) (sign ∙ w) exact ∙ ap clamped (sym (times-signed b (row .c) _)) ∙ signed-held b lift (omega arith)
+
+    module _ (r : Answer Float) (p : Powers) (e : p ≡ powersOf places scaled) (q : r ≡ floatOf f (spelled row s * 2 ^ p .up) (2 ^ p .down)) where
+      -- the value by its powers of two, up and down
+      by : (b : Bool) → isNegative (s .tail) ≡ b → (u d : ℕ) → (heightAbove (signed b lift) (pos 0) ≡ u) × (heightAbove (pos 0) (signed b lift) ≡ d) → r ≡ floatOf f (spelled row s * 2 ^ u) (2 ^ (behind + d))
+      by b w u d g =
+          q
+          ∙ ap (λ (x : Powers). floatOf f (spelled row s * 2 ^ x .up) (2 ^ x .down)) (e ∙ ap₂ powersOf places-are (scaled-is b w))
+          ∙ rw (g .0, g .1, height-up behind .0)
+
+      value-divided : isNegative (s .tail) ≡ true → r ≡ valueOf f row power t s
+      unfolding numerator denominator
+      value-divided w =
+          by true w 0 lift (height-down lift)
+          ∙ value-is _ _ (sym (ap (λ (b : Bool). spelled row s * cond b 1 (basePower row power s)) w))
+          (pow-add 2 behind lift ∙ sym (ap (λ (b : Bool). 2 ^ behind * cond b (basePower row power s) 1) w))
+
+      value-multiplied : isNegative (s .tail) ≡ false → r ≡ valueOf f row power t s
+      unfolding numerator denominator
+      value-multiplied w =
+          by false w lift 0 (height-up lift)
+          ∙ value-is _ _ (sym (ap (λ (b : Bool). spelled row s * cond b 1 (basePower row power s)) w))
+          (pow-add 2 behind 0 ∙ sym (ap (λ (b : Bool). 2 ^ behind * cond b (basePower row power s) 1) w))
+
+      pub value-scaled : r ≡ valueOf f row power t s
+      value-scaled = go (isNegative (s .tail)) refl
+        where
+          go : (b : Bool) → isNegative (s .tail) ≡ b → r ≡ valueOf f row power t s
+          go true w = value-divided w
+          go false w = value-multiplied w
 
   pub kept-holds : AreDigits (2 ^ row .b) (s .whole ++ s .fraction) → Holds (spelled row s) (n .kept)
   kept-holds are = rw (ap (λ (x : Number). x .kept) is) (digits-hold (row .b) (s .whole ++ s .fraction) are)

@@ -8,9 +8,11 @@ use native.Mathlib.Numerals.{add-one}
 use native.Mathlib.Omega.{arith}
 use borrow.Author.Tests.{eq-eqb, ne-eqb}
 use lib.Dec.{eqb}
+use lib.IntN.{pos, natAbs}
 use lib.ListN.{length, drop, getD, length-drop, drop-of-length-le}
 use lib.Seq.{drop-cons, drop-drop}
 use Rattle.lexical_util.specs.Digit.{digitIn, digitsValue}
+use Rattle.lexical_util.specs.declared.exponent.DigitExponent.{DigitExponent}
 use Rattle.lexical_reading.specs.Shape.{Grammar, Sign, unsigned, plus, minus, Tail, exponent}
 use Rattle.lexical_reading.specs.Parse.{more, run, Parsed, found, stuck, mapParsed, allDigits, exponentDigits, signedExponent, parseTail, withTail, afterWhole, oneOrMore, parse}
 use Rattle.lexical_reading.specs.Read.{magnitude, isNegative, exponentPlace}
@@ -73,13 +75,13 @@ module _ (t : List ℕ) (radix : ℕ) (s : Sign) (from : ℕ) where
 
   all-there : (g left : List ℕ) → left ≡ drop (from + length g) t → (from + length g ≡ from → ⊥) → from + length g ≡ length t
       → (n : Bool) (m : ℕ) → isNegative (exponent s []) ≡ n → m ≡ min (digitsValue radix g) 32768
-      → tail.Found (record { negative = n; magnitude = m; place = from }) ≡ Wanted g left
+      → tail.Found (record { power = record { 0 = n; 1 = m }; place = from }) ≡ Wanted g left
   unfolding exponentPlace
   all-there [] left e z h n m p q = absurd (z (let y : from + 0 ≡ from = omega arith in y))
   all-there (d ∷ ds) (x ∷ xs) e z h n m p q = absurd (let y = ap (λ (l : List ℕ). length l) e ∙ length-drop (from + suc (length ds)) t in omega arith)
   all-there (d ∷ ds) [] e z h n m p q =
       let w : from ≡ length t - suc (length ds) = omega arith in
-      rw (sym p, q, w) (ap (λ (b : Bool). tail.Found (record { negative = b; magnitude = min (digitsValue radix (d ∷ ds)) 32768; place = length t - suc (length ds) })) (sym (same-sign s (d ∷ ds))))
+      rw (sym p, q, w) (ap (λ (b : Bool). tail.Found (record { power = record { 0 = b; 1 = min (digitsValue radix (d ∷ ds)) 32768 }; place = length t - suc (length ds) })) (sym (same-sign s (d ∷ ds))))
 
   -- the same of the digits from that place on
   left-is : run radix (drop from t) .left ≡ drop (endFrom radix t from) t
@@ -93,7 +95,7 @@ module _ (t : List ℕ) (radix : ℕ) (s : Sign) (from : ℕ) where
 
   pub digits-all : (end : ℕ) → end ≡ endFrom radix t from → (end ≡ from → ⊥) → end ≡ length t
       → (n : Bool) (m : ℕ) → isNegative (exponent s []) ≡ n → m ≡ min (digitsValue radix (digitsFrom radix t from)) 32768
-      → tail.Found (record { negative = n; magnitude = m; place = from }) ≡ scannedTail t radix (exponentDigits radix s (drop from t))
+      → tail.Found (record { power = record { 0 = n; 1 = m }; place = from }) ≡ scannedTail t radix (exponentDigits radix s (drop from t))
   digits-all end e n h b m p q = all-there (digitsFrom radix t from) _ left-is (λ z. n (e ∙ z)) (sym e ∙ h) b m p q
 
 -- ---- behind the mark
@@ -116,7 +118,7 @@ module _ (t : List ℕ) (radix from : ℕ) where
 
 -- ---- behind the mantissa
 module _ (t : List ℕ) (G : Grammar) (from : ℕ) where
-  pub tail-absent : from ≡ length t → tail.Found (record { negative = false; magnitude = 0; place = length t }) ≡ scannedTail t (G .exponentRadix) (parseTail G (drop from t))
+  pub tail-absent : from ≡ length t → tail.Found (record { power = record { 0 = false; 1 = 0 }; place = length t }) ≡ scannedTail t (G .exponentRadix) (parseTail G (drop from t))
   unfolding parseTail exponentPlace
   tail-absent e = rw (at-end t from e)
 
@@ -147,14 +149,18 @@ begins-inside t at byte h e = go (drop at t) refl e
 
 -- the digits behind a point
 pub fraction-some : (t : List ℕ) (radix b : ℕ) (kept : Kept) (end : ℕ) (dot : Bool) (stop : ℕ) (k : Kept) → dot ≡ true → stop ≡ endFrom radix t (end + 1) → k ≡ keepDigits b kept (digitsFrom radix t (end + 1))
-    → record { end = stop; kept = k; fraction = stop - (end + 1) } ≡ withFraction t radix b kept end dot
+    → record { end = stop; kept = k; fraction = record { 0 = pos (stop - (end + 1)) } } ≡ withFraction t radix b kept end dot
 fraction-some t radix b kept end dot stop k d e q =
     let count : stop - (end + 1) ≡ length (digitsFrom radix t (end + 1)) = omega arith in
-    rw (d, q, count) (ap (λ (n : ℕ). record { end = n; kept = keepDigits b kept (digitsFrom radix t (end + 1)); fraction = length (digitsFrom radix t (end + 1)) }) e)
+    rw (d, q, count) (ap (λ (n : ℕ). record { end = n; kept = keepDigits b kept (digitsFrom radix t (end + 1)); fraction = record { 0 = pos (length (digitsFrom radix t (end + 1))) } }) e)
+
+-- a count of digits
+abbrev counted : ℕ → DigitExponent
+counted n = record { 0 = pos n }
 
 -- the mantissa's digits with what stands behind them
 shape-tail : (t : List ℕ) (b radix : ℕ) (whole : List ℕ) (dot : Bool) (fraction : List ℕ) (p : Parsed Tail)
-    → scannedShape t b radix (mapParsed (withTail whole dot fraction) p) ≡ scannedNumber (keepDigits b empty (whole ++ fraction)) (length fraction) (scannedTail t radix p)
+    → scannedShape t b radix (mapParsed (withTail whole dot fraction) p) ≡ scannedNumber (keepDigits b empty (whole ++ fraction)) (counted (length fraction)) (scannedTail t radix p)
 shape-tail t b radix whole dot fraction (found τ) = refl
 shape-tail t b radix whole dot fraction (stuck left) = refl
 
@@ -168,10 +174,10 @@ module _ (t : List ℕ) (b : ℕ) (G : Grammar) where
   empty-front (d ∷ ds) left e z = absurd (omega arith)
 
   plain-front : (g left : List ℕ) → (length g ≡ 0 → ⊥) → beginsWith (G .point) left ≡ false
-      → scannedNumber (keepDigits b empty g) 0 (scannedTail t (G .exponentRadix) (parseTail G left)) ≡ Whole g left
+      → scannedNumber (keepDigits b empty g) (counted 0) (scannedTail t (G .exponentRadix) (parseTail G left)) ≡ Whole g left
   plain-front [] left z n = absurd (z refl)
   plain-front (d ∷ ds) left z n =
-      ap (λ (l : List ℕ). scannedNumber (keepDigits b empty l) 0 (scannedTail t (G .exponentRadix) (parseTail G left))) (sym (append-nil (d ∷ ds)))
+      ap (λ (l : List ℕ). scannedNumber (keepDigits b empty l) (counted 0) (scannedTail t (G .exponentRadix) (parseTail G left))) (sym (append-nil (d ∷ ds)))
       ∙ sym (ap (scannedShape t b (G .exponentRadix)) (no-point G (d ∷ ds) left (head left n)) ∙ shape-tail t b (G .exponentRadix) (d ∷ ds) false [] (parseTail G left))
     where
       head : (u : List ℕ) → beginsWith (G .point) u ≡ false → Head (λ x. eqb x (G .point) ≡ false) u
@@ -179,7 +185,7 @@ module _ (t : List ℕ) (b : ℕ) (G : Grammar) where
       head (x ∷ xs) e = e
 
   point-front : (g left after : List ℕ) (x : ℕ) → (length g ≡ 0 → ⊥) → left ≡ x ∷ after → eqb x (G .point) ≡ true
-      → scannedNumber (keepDigits b empty (g ++ run (G .radix) after .got)) (length (run (G .radix) after .got)) (scannedTail t (G .exponentRadix) (parseTail G (run (G .radix) after .left)))
+      → scannedNumber (keepDigits b empty (g ++ run (G .radix) after .got)) (counted (length (run (G .radix) after .got))) (scannedTail t (G .exponentRadix) (parseTail G (run (G .radix) after .left)))
       ≡ Whole g left
   unfolding afterWhole
   point-front [] left after x z e n = absurd (z refl)
@@ -205,7 +211,7 @@ module _ (t : List ℕ) (b : ℕ) (G : Grammar) where
       plain n e =
           ap₂ (λ (x : Mantissa) (y : ScannedTail). scannedNumber (x .kept) (x .fraction) y) e
           (tail-is ∙ ap (λ (x : Mantissa). scannedTail t (G .exponentRadix) (parseTail G (drop (x .end) t))) e ∙ ap (λ (l : List ℕ). scannedTail t (G .exponentRadix) (parseTail G l)) (sym (left-at end is)))
-          ∙ ap (λ (x : Kept). scannedNumber x 0 (scannedTail t (G .exponentRadix) (parseTail G (run (G .radix) t .left)))) kept
+          ∙ ap (λ (x : Kept). scannedNumber x (counted 0) (scannedTail t (G .exponentRadix) (parseTail G (run (G .radix) t .left)))) kept
           ∙ plain-front (run (G .radix) t .got) _ (λ y. begun (sym (front end is) ∙ y)) (ap (beginsWith (G .point)) (left-at end is) ∙ n)
 
       pointed : end < length t → beginsWith (G .point) (drop end t) ≡ true → m ≡ withFraction t (G .radix) b k end true → scannedNumber (m .kept) (m .fraction) τ ≡ scannedShape t b (G .exponentRadix) (parse G t)
@@ -215,7 +221,7 @@ module _ (t : List ℕ) (b : ℕ) (G : Grammar) where
           let ds = digitsFrom (G .radix) t (end + 1) in
           ap₂ (λ (x : Mantissa) (y : ScannedTail). scannedNumber (x .kept) (x .fraction) y) e
           (tail-is ∙ ap (λ (x : Mantissa). scannedTail t (G .exponentRadix) (parseTail G (drop (x .end) t))) e ∙ ap (λ (l : List ℕ). scannedTail t (G .exponentRadix) (parseTail G l)) (sym (left-from (G .radix) t (end + 1))))
-          ∙ ap (λ (x : Kept). scannedNumber x (length ds) (scannedTail t (G .exponentRadix) (parseTail G (run (G .radix) more .left))))
+          ∙ ap (λ (x : Kept). scannedNumber x (counted (length ds)) (scannedTail t (G .exponentRadix) (parseTail G (run (G .radix) more .left))))
           (ap (λ (x : Kept). keepDigits b x ds) kept ∙ keep-append b empty (digitsFrom (G .radix) t 0) ds)
           ∙ point-front (run (G .radix) t .got) _ more (getD t end 0) (λ y. begun (sym (front end is) ∙ y)) (left-at end is ∙ at-byte t end h) (sym (ap (beginsWith (G .point)) (at-byte t end h)) ∙ n)
 
@@ -226,7 +232,7 @@ module _ (t : List ℕ) (b : ℕ) (G : Grammar) where
           go true n = pointed (begins-inside t end (G .point) h n) n
           go false n = plain n
 
-pub number-bounded : (k : Kept) (fraction : ℕ) (τ : ScannedTail) (r : Scanned) → k .below ≤ 20480 → fraction ≤ 4096 → r ≡ scannedNumber k fraction τ → IsBounded r
+pub number-bounded : (k : Kept) (fraction : DigitExponent) (τ : ScannedTail) (r : Scanned) → k .below ≤ 20480 → natAbs (fraction .0) ≤ 4096 → r ≡ scannedNumber k fraction τ → IsBounded r
 number-bounded k fraction τ r h l e = subst IsBounded (sym e) (go τ)
   where
     go : (τ : ScannedTail) → IsBounded (scannedNumber k fraction τ)

@@ -3,7 +3,9 @@ use Prim.Native.Nat.{ℕ, _+_, _-_, _≤_, min}
 use mathlib.Core.Bool.{Bool, true, false}
 use mathlib.Core.List.{List, [], _∷_, _++_}
 use lib.Dec.{eqb}
+use lib.IntN.{pos, natAbs}
 use lib.ListN.{length}
+use Rattle.lexical_util.specs.declared.exponent.DigitExponent.{DigitExponent}
 use Rattle.lexical_reading.specs.Shape.{Grammar, Tail, Shape}
 use Rattle.lexical_reading.specs.Parse.{Parsed, found, stuck}
 use Rattle.lexical_reading.specs.Read.{magnitude, isNegative, exponentPlace}
@@ -28,19 +30,19 @@ beginsWith byte (x ∷ xs) = eqb x byte
 
 -- the digits kept up to place `end` of a text t, with those behind the point if it stands there
 abbrev pub withFraction : List ℕ → ℕ → ℕ → Kept → ℕ → Bool → Mantissa
-withFraction t radix b kept end true = record { end = endFrom radix t (end + 1); kept = keepDigits b kept (digitsFrom radix t (end + 1)); fraction = length (digitsFrom radix t (end + 1)) }
-withFraction t radix b kept end false = record { end = end; kept = kept; fraction = 0 }
+withFraction t radix b kept end true = record { end = endFrom radix t (end + 1); kept = keepDigits b kept (digitsFrom radix t (end + 1)); fraction = record { 0 = pos (length (digitsFrom radix t (end + 1))) } }
+withFraction t radix b kept end false = record { end = end; kept = kept; fraction = record { 0 = pos 0 } }
 
 -- the exponent of a text t
 abbrev pub exponentOf : List ℕ → ℕ → Tail → Exponent
-exponentOf t radix τ = record { negative = isNegative τ; magnitude = min (magnitude radix τ) 32768; place = exponentPlace t τ }
+exponentOf t radix τ = record { power = record { 0 = isNegative τ; 1 = min (magnitude radix τ) 32768 }; place = exponentPlace t τ }
 
 abbrev pub scannedTail : List ℕ → ℕ → Parsed Tail → ScannedTail
 scannedTail t radix (found τ) = tail.Found (exponentOf t radix τ)
 scannedTail t radix (stuck left) = tail.Wrong (length t - length left)
 
 -- a mantissa with what stands behind it
-abbrev pub scannedNumber : Kept → ℕ → ScannedTail → Scanned
+abbrev pub scannedNumber : Kept → DigitExponent → ScannedTail → Scanned
 scannedNumber kept fraction (tail.Found exponent) = scanned.Found (record { kept = kept; fraction = fraction; exponent = exponent })
 scannedNumber kept fraction (tail.Wrong place) = scanned.Wrong place
 
@@ -48,7 +50,7 @@ scannedNumber kept fraction (tail.Wrong place) = scanned.Wrong place
 abbrev pub numberOf : List ℕ → ℕ → ℕ → Shape → Number
 numberOf t b exponentRadix s = record {
   kept = keepDigits b empty (s .whole ++ s .fraction);
-  fraction = length (s .fraction);
+  fraction = record { 0 = pos (length (s .fraction)) };
   exponent = exponentOf t exponentRadix (s .tail);
 }
 
@@ -59,7 +61,7 @@ scannedShape t b exponentRadix (stuck left) = scanned.Wrong (length t - length l
 -- numbers small enough for the sums that a value needs
 pub record Bounded (n : Number) : Type 0 where
   pub few-below : n .kept .below ≤ 20480
-  pub few-digits : n .fraction ≤ 4096
+  pub few-digits : natAbs (n .fraction .0) ≤ 4096
 
 abbrev pub IsBounded : Scanned → Type 0
 IsBounded (scanned.Found n) = Bounded n

@@ -2,8 +2,10 @@
 ghost use mathlib.Core.Path.{_≡_};
 ghost use mathlib.Core.List.{List, _++_};
 ghost use Prim.Native.Nat.{ℕ, _^_, _≤_};
+ghost use lib.IntN.{pos};
 ghost use lib.Ieee.{Format};
 ghost use Rattle.lexical_util.specs.Answer.{done};
+ghost use Rattle.lexical_util.specs.Exponent.{heightAbove};
 ghost use Rattle.lexical_util.specs.Digit.{AreDigits};
 ghost use Rattle.lexical_float.specs.Encoding.{formatOf};
 ghost use Rattle.lexical_format.specs.Format.{readingFormat};
@@ -22,7 +24,11 @@ use lexical_float::Width;
 use lexical_format::NumberFormat;
 use lexical_format::Options;
 use lexical_format::Pair;
+use lexical_util::BitExponent;
 use lexical_util::Refusal;
+use lexical_util::digits_in_bits;
+use lexical_util::height_above;
+use lexical_util::powers_in_bits;
 
 pub(crate) enum FloatBits {
     Bits(u64),
@@ -49,19 +55,17 @@ struct Powers {
     down: u32,
 }
 
-// Digits behind the point divide. So does the exponent's power where it is negative; else it multiplies.
-fn powers_of(negative: bool, places: u32, power: u32) -> Powers
-    requires { ⌜ (places ≤ 20480) × (power ≤ 163835) ⌝ }
-    ensures { λ r. ⌜ r ≡ powersOf negative places power ⌝ }
-    ensures room { λ r. ⌜ (r .up ≤ 163835) × (r .down ≤ 184315) ⌝ }
+// Digits behind the point divide. So does the exponent's power where it is below 0; else it multiplies.
+fn powers_of(places: BitExponent, power: BitExponent) -> Powers
+    requires { ⌜ (heightAbove (places .0) (pos 0) ≤ 20480) × (heightAbove (pos 0) (power .0) ≤ 163835) ⌝ }
+    ensures { λ r. ⌜ r ≡ powersOf (places .0) (power .0) ⌝ }
 {
-    if negative {
-        let down = places + power;
-        return Powers { up: 0, down };
-    }
+    let none = BitExponent(0);
+    let behind = height_above(places, none);
+    let below = height_above(none, power);
     Powers {
-        up: power,
-        down: places,
+        up: height_above(power, none),
+        down: behind + below,
     }
 }
 
@@ -73,16 +77,16 @@ fn value_bits(number: Number, row: Pair, width: Width) -> FloatBits
 {
     let exponent = number.exponent;
     let kept = number.kept;
-    let magnitude = exponent.magnitude;
-    if magnitude > 32767 {
+    let fraction = number.fraction;
+    let power = exponent.power;
+    if power.1 > 32767 {
         return FloatBits::Refused(Refusal {
             number: 10,
             place: exponent.place,
         });
     }
-    let places = row.b * number.fraction as u32;
-    let power = row.c * magnitude;
-    let powers = powers_of(exponent.negative, places, power);
+    let places = digits_in_bits(fraction, row.b);
+    let powers = powers_of(places, powers_in_bits(power, row.c));
     let rounded = round_kept(kept, powers.up, powers.down, width);
     rounded_bits(rounded)
 }

@@ -2,6 +2,7 @@
 ghost use mathlib.Core.Path.{_≡_};
 ghost use mathlib.Core.List.{[]};
 ghost use Prim.Native.Nat.{ℕ, _+_, _*_, _≤_, _<_};
+ghost use lib.IntN.{natAbs};
 ghost use lib.ListN.{length, drop};
 ghost use Rattle.lexical_reading.specs.Shape.{Sign, exponent};
 ghost use Rattle.lexical_reading.specs.Parse.{exponentDigits, signedExponent, parseTail, parse};
@@ -10,11 +11,12 @@ ghost use Rattle.lexical_read_float.specs.Scan.{grammar, beginsWith, wit
 use crate::digits::exponent_digits;
 use crate::digits::mantissa_digits;
 use crate::kept::Kept;
+use lexical_util::BaseExponent;
+use lexical_util::DigitExponent;
 
-// A text's exponent: its sign, its magnitude or 32,768 for any above, and the place of its first digit. Without one, 0 at the text's end.
+// A text's exponent: its sign and its magnitude, or 32,768 for any above, in powers of the base, and the place of its first digit. Without one, 0 at the text's end.
 pub(crate) struct Exponent {
-    pub negative: bool,
-    pub magnitude: u32,
+    pub power: BaseExponent,
     pub place: usize,
 }
 
@@ -26,7 +28,7 @@ pub(crate) enum ScannedTail {
 // What a text spells: its digits, how many of them stand behind the point, and its exponent.
 pub(crate) struct Number {
     pub kept: Kept,
-    pub fraction: usize,
+    pub fraction: DigitExponent,
     pub exponent: Exponent,
 }
 
@@ -50,8 +52,7 @@ fn scan_exponent_digits(text: &[u8], before: usize, radix: u32, negative: bool) 
         return ScannedTail::Wrong(end);
     }
     ScannedTail::Found(Exponent {
-        negative,
-        magnitude: digits.magnitude,
+        power: BaseExponent(negative, digits.magnitude as u64),
         place: from,
     })
 }
@@ -82,8 +83,7 @@ fn scan_tail(text: &[u8], from: usize, radix: u32, mark: u8) -> ScannedTail
 {
     if from == text.len() {
         return ScannedTail::Found(Exponent {
-            negative: false,
-            magnitude: 0,
+            power: BaseExponent(false, 0),
             place: text.len(),
         });
     }
@@ -94,7 +94,7 @@ fn scan_tail(text: &[u8], from: usize, radix: u32, mark: u8) -> ScannedTail
 }
 
 // The mantissa's digits with what stands behind them.
-fn with_tail(kept: Kept, fraction: usize, tail: ScannedTail) -> Scanned
+fn with_tail(kept: Kept, fraction: DigitExponent, tail: ScannedTail) -> Scanned
     ensures { λ r. ⌜ r ≡ scannedNumber kept fraction tail ⌝ }
 {
     match tail {
@@ -122,30 +122,30 @@ fn stands_at(text: &[u8], at: usize, byte: u8) -> bool
 struct Mantissa {
     end: usize,
     kept: Kept,
-    fraction: usize,
+    fraction: DigitExponent,
 }
 
 // The digits in front of a place, with those behind the point if it stands there.
 fn with_fraction(text: &[u8], end: usize, radix: u32, b: u32, point: u8, kept: Kept) -> Mantissa
     requires { ⌜ (end ≤ length (now text)) × (length (now text) ≤ 4096) × (radix ≤ 32) × (b ≤ 5) × (kept .below ≤ 5 * end) ⌝ }
     ensures { λ r. ⌜ r ≡ withFraction (now (text .entry)) radix b kept end (beginsWith point (drop end (now (text .entry)))) ⌝ }
-    ensures room { λ r. ⌜ (r .end ≤ length (now (text .entry))) × (r .kept .below ≤ 5 * r .end) × (r .fraction ≤ 4096) ⌝ }
+    ensures room { λ r. ⌜ (r .end ≤ length (now (text .entry))) × (r .kept .below ≤ 5 * r .end) × (natAbs (r .fraction .0) ≤ 4096) ⌝ }
 {
     if stands_at(text, end, point) {
         let from = end + 1;
         let digits = mantissa_digits(text, from, radix, b, kept);
         let all = digits.kept;
-        let fraction = digits.end - from;
+        let count = digits.end - from;
         return Mantissa {
             end: digits.end,
             kept: all,
-            fraction,
+            fraction: DigitExponent(count as i32),
         };
     }
     Mantissa {
         end,
         kept,
-        fraction: 0,
+        fraction: DigitExponent(0),
     }
 }
 
@@ -175,6 +175,7 @@ pub(crate) fn scan(
     }
     let mantissa = with_fraction(text, end, radix, b, point, kept);
     let all = mantissa.kept;
+    let fraction = mantissa.fraction;
     let tail = scan_tail(text, mantissa.end, exponent_radix, mark);
-    with_tail(all, mantissa.fraction, tail)
+    with_tail(all, fraction, tail)
 }

@@ -1,13 +1,13 @@
 -- The laws of the three exponents: s by significant bits, a signed number's magnitude, division rounded up, p as floor (s / b), p * b / c, and e mod b. Assumes nothing.
-use Prim.Native.Nat.{ℕ, zero, suc, _+_, _-_, _*_, _/_, _%_, _^_, _≤_, _<_}
+use Prim.Native.Nat.{ℕ, zero, suc, _+_, _-_, _*_, _/_, _%_, _^_, _≤_, _<_, min}
 use mathlib.Core.Path.{_≡_, refl, sym, ap, _∙_}
-use mathlib.Core.Bool.{true, false}
-use native.Mathlib.Nat.{zero-mul, one-mul, mul-one, mul-comm, mul-le-mul-right, mul-lt-mul-of-pos-right, suc-mul, mul-le-mul, mul-div-le, lt-mul-div-succ, div-zero, div-mul-le-self, lt-div-mul-add, div-eq-of-lt-le, div-lt-iff-lt-mul, div-mul-cancel, dvd-mul-left, dvd-mul-left-of-dvd, lt-of-le-of-lt, mod-lt, zero-lt-suc}
+use mathlib.Core.Bool.{Bool, true, false}
+use native.Mathlib.Nat.{zero-mul, mul-zero, one-mul, mul-one, mul-comm, mul-le-mul-right, mul-lt-mul-of-pos-right, suc-mul, mul-le-mul, mul-div-le, lt-mul-div-succ, div-zero, div-mul-le-self, lt-div-mul-add, div-eq-of-lt-le, div-lt-iff-lt-mul, div-mul-cancel, dvd-mul-left, dvd-mul-left-of-dvd, lt-of-le-of-lt, mod-lt, zero-lt-suc}
 use native.Mathlib.Numerals.{add-one}
 use native.Mathlib.Omega.{arith}
 use borrow.Author.Tests.{ltb-true, ltb-false, lt-ltb, le-ltb}
 use lib.Dec.{T, le→leb, lt→ltb}
-use lib.IntN.{ℤ, pos, negsuc, negℤ, natAbs, _+ℤ_, _-ℤ_, _*ℤ_, +ℤ-assoc}
+use lib.IntN.{ℤ, pos, negsuc, negℤ, natAbs, _+ℤ_, _-ℤ_, _*ℤ_, +ℤ-assoc, +ℤ-idl}
 use lib.Signed.{mag, ltZ, nonNeg, mag-shr, _≤ℤ_, _<ℤ_, leZ-yes, ltZ-yes}
 use lib.Count.{leadingZeros}
 use lib.Ieee.{size, up, down}
@@ -17,7 +17,7 @@ use lib.Ieee.Digits.{size-lt, size-le, size-reaches}
 use mir.Syntax.{w32, w64}
 use mir.Val.{Fits, SFits, toZ, ofZ}
 use mir.Facts.{toZ-ofZ, toZ-pos}
-use Rattle.lexical_util.specs.Exponent.{clamped, scale, LeadingBit, place, isNegative, power, modulo, heightAbove}
+use Rattle.lexical_util.specs.Exponent.{clamped, scale, LeadingBit, place, isNegative, power, modulo, heightAbove, signed}
 use Rattle.lexical_util.proofs.DifferenceLaws.{by-larger, gap-above, gap-of, widened}
 use Rattle.lexical_util.proofs.PowerLaws.{size-pos, leading-size}
 
@@ -124,6 +124,121 @@ module _ (a b : ℤ) (h : mag a < 2147483648) (k : mag b < 2147483648) (le : ltZ
 -- e is d and the height above it
 pub height-is : (e d : ℤ) → ltZ e d ≡ false → e ≡ d +ℤ pos (heightAbove e d)
 height-is e d le = let g = gap-of e d le in rw (le, g .is) (gap-above e d (g .gap) (g .is))
+
+-- of an exponent above 0 and of one below
+pub height-up : (n : ℕ) → (heightAbove (pos n) (pos 0) ≡ n) × (heightAbove (pos 0) (pos n) ≡ 0)
+height-up zero = (refl, refl)
+height-up (suc n) = (rw (le-ltb (suc n) 0 (omega arith)) (omega arith), rw (lt-ltb 0 (suc n) (omega arith)))
+
+pub height-down : (n : ℕ) → (heightAbove (negℤ (pos n)) (pos 0) ≡ 0) × (heightAbove (pos 0) (negℤ (pos n)) ≡ n)
+height-down zero = (refl, refl)
+height-down (suc n) = (refl, omega arith)
+
+-- ---- in bits: a product at 64 bits
+negative-fits : (k : ℕ) → k ≤ 9223372036854775808 → SFits w64 (negℤ (pos k))
+negative-fits zero h = record { sfits = omega arith }
+negative-fits (suc k) h = record { sfits = omega arith }
+
+few-bits : (b n : ℕ) → b < 4294967296 → n ≤ 2147483648 → b * n < 9223372036854775808
+few-bits b n h l = omega (arith, mul-le-mul {n₁ = b} {m₁ = n} {n₂ = 4294967295} {m₂ = 2147483648} (omega arith) l)
+
+-- as the code multiplies them
+module _ (b : ℕ) (p : ℤ) (h : b < 4294967296) (k : mag p < 2147483648) where
+  product : (p : ℤ) → mag p < 2147483648 → SFits w64 (pos b *ℤ p)
+  product (pos n) l = record { sfits = few-bits b n h (omega arith) }
+  product (negsuc n) l = negative-fits (b * suc n) (omega (arith, few-bits b (suc n) h l))
+
+  abbrev pub coded-product : ℤ
+  coded-product = toZ w64 b *ℤ toZ w64 (ofZ w64 (toZ w32 (ofZ w32 p)))
+
+  coded-product-same : coded-product ≡ pos b *ℤ p
+  coded-product-same = rw (toZ-pos w64 {n = b} (omega arith), widened p k .1)
+
+  pub coded-product-fits : SFits w64 coded-product
+  coded-product-fits = rw coded-product-same (product p k)
+
+  pub coded-product-is : toZ w64 (ofZ w64 coded-product) ≡ pos b *ℤ p
+  coded-product-is = rw coded-product-same (toZ-ofZ (product p k))
+
+-- the sign goes before the product
+pub times-signed : (s : Bool) (c n : ℕ) → signed s (c * n) ≡ pos c *ℤ signed s n
+times-signed true c zero = rw (mul-zero c)
+times-signed true c (suc n) = refl
+times-signed false c n = refl
+
+-- past 2 ^ 31 all magnitudes are held as one, and so many powers of the base are past it, unless the base has no bits
+far-same : (s : Bool) (k l : ℕ) → 2147483648 ≤ k → 2147483648 ≤ l → clamped (signed s k) ≡ clamped (signed s l)
+far-same true zero l h g = absurd (omega arith)
+far-same true (suc k) zero h g = absurd (omega arith)
+far-same true (suc k) (suc l) h g = ap negsuc (omega arith)
+far-same false k l h g = ap pos (omega arith)
+
+many-same : (s : Bool) (c n : ℕ) → 2147483648 ≤ n → clamped (signed s (c * 2147483648)) ≡ clamped (signed s (c * n))
+many-same s zero n h = rw (zero-mul n, zero-mul 2147483648)
+many-same s (suc c) n h = far-same s (suc c * 2147483648) (suc c * n) (omega (arith, suc-mul c 2147483648)) (omega (arith, suc-mul c n))
+
+pub few-same : (s : Bool) (c n : ℕ) → clamped (signed s (c * min n 2147483648)) ≡ clamped (pos c *ℤ signed s n)
+few-same s c n =
+    by-larger n 2147483648 (clamped (signed s (c * min n 2147483648)) ≡ clamped (signed s (c * n)))
+    (λ h. let e : min n 2147483648 ≡ 2147483648 = omega arith in rw e (many-same s c n h))
+    (λ h. let e : min n 2147483648 ≡ n = omega arith in rw e)
+    ∙ ap clamped (times-signed s c n)
+
+-- where nothing is past an end
+pub signed-held : (s : Bool) (k : ℕ) → k < 2147483648 → clamped (signed s k) ≡ signed s k
+signed-held true zero h = refl
+signed-held true (suc k) h = clamped-is (negsuc k) (omega arith)
+signed-held false k h = clamped-is (pos k) h
+
+-- an end is no farther from 0 than what is past it
+height-le : (z : ℤ) → (heightAbove (clamped z) (pos 0) ≤ natAbs z) × (heightAbove (pos 0) (clamped z) ≤ natAbs z)
+height-le (pos n) = let w = height-up (min n 2147483647) in (omega (arith, w .0), omega (arith, w .1))
+height-le (negsuc n) = let w = height-down (suc (min n 2147483647)) in (omega (arith, w .0), omega (arith, w .1))
+
+abs-times : (b : ℕ) (z : ℤ) → natAbs (pos b *ℤ z) ≡ b * natAbs z
+abs-times b (pos n) = refl
+abs-times b (negsuc n) = abs-negative (b * suc n)
+  where
+    abs-negative : (k : ℕ) → natAbs (negℤ (pos k)) ≡ k
+    abs-negative zero = refl
+    abs-negative (suc k) = refl
+
+pub height-few : (b : ℕ) (z : ℤ) → let w = clamped (pos b *ℤ z) in (heightAbove w (pos 0) ≤ b * natAbs z) × (heightAbove (pos 0) w ≤ b * natAbs z)
+height-few b z = let w = height-le (pos b *ℤ z) in let e = abs-times b z in (omega (arith, w .0, e), omega (arith, w .1, e))
+
+abs-signed : (s : Bool) (n : ℕ) → natAbs (signed s n) ≡ n
+abs-signed true zero = refl
+abs-signed true (suc n) = refl
+abs-signed false n = refl
+
+pub signed-few : (s : Bool) (c n : ℕ) → let w = clamped (pos c *ℤ signed s n) in (heightAbove w (pos 0) ≤ c * n) × (heightAbove (pos 0) w ≤ c * n)
+signed-few s c n =
+    let e = ap (λ (k : ℕ). c * k) (abs-signed s n) in
+    let w = height-few c (signed s n) in
+    (omega (arith, w .0, e), omega (arith, w .1, e))
+
+-- as the code takes the magnitude and the sign
+module _ (c m : ℕ) (h : c < 4294967296) (l : m ≤ 2147483648) where
+  pub power-fits : Fits w64 (c * m)
+  power-fits = record { fits = omega (arith, few-bits c m h l) }
+
+  pub power-casts : SFits w64 (pos (c * m))
+  power-casts = record { sfits = few-bits c m h l }
+
+  pub power-above : toZ w64 (c * m) ≡ signed false (c * m)
+  power-above = toZ-pos w64 (few-bits c m h l)
+
+  below-same : pos 0 -ℤ toZ w64 (c * m) ≡ signed true (c * m)
+  below-same = rw (toZ-pos w64 {n = c * m} (few-bits c m h l)) (+ℤ-idl (negℤ (pos (c * m))))
+
+  negated : SFits w64 (signed true (c * m))
+  negated = negative-fits (c * m) (omega (arith, few-bits c m h l))
+
+  pub power-below-fits : SFits w64 (pos 0 -ℤ toZ w64 (c * m))
+  power-below-fits = rw below-same negated
+
+  pub power-below : toZ w64 (ofZ w64 (pos 0 -ℤ toZ w64 (c * m))) ≡ signed true (c * m)
+  power-below = rw below-same (toZ-ofZ negated)
 
 -- ---- a signed number below 0, and its magnitude
 pub sign-is : (z : ℤ) → ltZ z (pos 0) ≡ isNegative z

@@ -1,7 +1,7 @@
 -- Significant bits and the three exponents of a value: document 01, "Float parts" and the s of "Layout". Definitions only.
 use Prim.Native.Nat.{ℕ, zero, suc, _+_, _-_, _*_, _/_, _%_, _≤_, _<_, min}
 use mathlib.Core.Bool.{Bool, true, false, cond}
-use lib.IntN.{ℤ, pos, negsuc, natAbs, _+ℤ_, _-ℤ_}
+use lib.IntN.{ℤ, pos, negsuc, negℤ, natAbs, _+ℤ_, _-ℤ_}
 use lib.Signed.{shrZ, ltZ}
 use lib.Ieee.{up, down, size}
 
@@ -55,3 +55,8 @@ placesBeforePoint p = natAbs p + 1
 -- how many bits an exponent e stands above another, d, and 0 where it does not
 abbrev pub heightAbove : ℤ → ℤ → ℕ
 heightAbove e d = cond (ltZ e d) 0 (natAbs (e -ℤ d))
+
+-- the integer of a sign and a magnitude, as a text has its exponent
+abbrev pub signed : Bool → ℕ → ℤ
+signed true n = negℤ (pos n)
+signed false n = pos n

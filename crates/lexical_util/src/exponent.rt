@@ -1,10 +1,10 @@
 // Derived from `significant_bits`, `fast_ceildiv`, `calculate_shl` and `scale_sci_exp` of lexical-write-float/src/binary.rs and hex.rs, changed: each exponent has a type of its own, and nothing wraps.
 // Document 01: "An exponent in bits, one in digits and one in powers of the base are three separate counts". Only the functions here turn one into another.
 ghost use mathlib.Core.Path.{_≡_};
-ghost use Prim.Native.Nat.{_+_, _-_, _*_, _/_, _%_, _^_, _≤_, _<_};
+ghost use Prim.Native.Nat.{_+_, _-_, _*_, _/_, _%_, _^_, _≤_, _<_, min};
 ghost use lib.IntN.{pos, natAbs, _+ℤ_, _*ℤ_};
 ghost use lib.Signed.{ltZ, _≤ℤ_, _<ℤ_};
-ghost use Rattle.lexical_util.specs.Exponent.{significantBits, scale, LeadingBit, place, isNegative, power, modulo, zerosBehindPoint, placesBeforePoint, clamped, heightAbove};
+ghost use Rattle.lexical_util.specs.Exponent.{significantBits, scale, LeadingBit, place, isNegative, power, modulo, zerosBehindPoint, placesBeforePoint, clamped, heightAbove, signed};
 
 // In bits: e, s, or any exponent of two.
 pub struct BitExponent(pub i32);
@@ -193,4 +193,36 @@ pub fn height_above(exponent: BitExponent, other: BitExponent) -> u32
         return 0;
     }
     (upper as i64 - lower as i64) as u32
+}
+
+// An exponent in digits, in bits: p * b. The product is taken at twice the width, where it has room.
+pub fn digits_in_bits(p: DigitExponent, bits_per_digit: u32) -> BitExponent
+    ensures { λ r. ⌜ r .0 ≡ clamped (pos «bits_per_digit» *ℤ p .0) ⌝ }
+{
+    let bits = bits_per_digit as i64;
+    let digits = p.0 as i64;
+    clamped(bits * digits)
+}
+
+// The least of a number and 2^31. So many powers of the base, or more, are past what 32 bits hold, however many.
+fn at_most_past(powers: u64) -> u64
+    ensures { λ r. ⌜ r ≡ min powers 2147483648 ⌝ }
+{
+    if powers > 2147483648 {
+        2147483648
+    } else {
+        powers
+    }
+}
+
+// An exponent in powers of the base, in bits: its magnitude times c, with its sign.
+pub fn powers_in_bits(exponent: BaseExponent, bits_per_base: u32) -> BitExponent
+    ensures { λ r. ⌜ r .0 ≡ clamped (pos «bits_per_base» *ℤ signed (exponent .0) (exponent .1)) ⌝ }
+{
+    let powers = at_most_past(exponent.1);
+    let bits = bits_per_base as u64 * powers;
+    if exponent.0 {
+        return clamped(0 - bits as i64);
+    }
+    clamped(bits as i64)
 }

@@ -29,7 +29,7 @@ with-tail-requires c κs = search needs
 returns-2 : tie.Need-returns-2
 returns-2 c =
     let τ = c .before in
-    let f = τ .before .before in
+    let f = τ .before .before .before in
     let e = f .before in
     let m = e .before .before in
     let s = m .before .before in (
