@@ -1,15 +1,25 @@
-//! Compiles `c/through.c`, which calls the library as the header declares it. CC names the compiler.
+//! Compiles `c/through.c`, which calls the library as the header declares it, and `c/mode.c`, which
+//! sets the floating-point mode. CC names the compiler.
 
 use std::env;
 use std::process::Command;
 
 fn main() {
     println!("cargo::rerun-if-env-changed=CC");
-    println!("cargo::rerun-if-changed=c/through.c");
     println!("cargo::rerun-if-changed=../include/hornbillrug.h");
     let out = env::var("OUT_DIR").expect("cargo names a folder to write to");
-    let object = format!("{out}/through.o");
     let library = format!("{out}/libthrough.a");
+    let objects = ["through", "mode"].map(|name| compile(&out, name));
+    run(Command::new("ar").args(["rcs", &library]).args(objects));
+    println!("cargo::rustc-link-search=native={out}");
+    println!("cargo::rustc-link-lib=static=through");
+}
+
+/// The object of a file of `c/`.
+fn compile(out: &str, name: &str) -> String {
+    let source = format!("c/{name}.c");
+    let object = format!("{out}/{name}.o");
+    println!("cargo::rerun-if-changed={source}");
     let compiler = env::var("CC").unwrap_or("cc".to_string());
     run(Command::new(compiler).args([
         "-std=c11",
@@ -22,13 +32,11 @@ fn main() {
         "-fPIC",
         "-I../include",
         "-c",
-        "c/through.c",
+        &source,
         "-o",
         &object,
     ]));
-    run(Command::new("ar").args(["rcs", &library, &object]));
-    println!("cargo::rustc-link-search=native={out}");
-    println!("cargo::rustc-link-lib=static=through");
+    object
 }
 
 fn run(command: &mut Command) {

@@ -8,7 +8,12 @@
  * What a caller in C has to see to, since no call can check it:
  * - a pointer is not null, and is valid for as many bytes as the length behind it says, also for 0;
  * - the buffer that a call writes into overlaps nothing else that the call is given;
- * - a bool holds 0 or 1.
+ * - a bool holds 0 or 1;
+ * - where floating-point exceptions are unmasked, a call may raise one, since it tells a NaN by
+ *   comparing the float with itself: invalid, for a signalling NaN to be written, and denormal
+ *   operand, for a denormal in any call but lexical_read_f64 and lexical_read_f32.
+ * In nothing else does an answer depend on the floating-point mode: neither on the rounding direction,
+ * nor on denormals being taken for zero or flushed to zero, as -ffast-math sets it for a process.
  *
  * No call keeps a pointer, allocates, or has a state of its own, so any thread may call any of them. */
 #ifndef HORNBILLRUG_H

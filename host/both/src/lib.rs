@@ -2,6 +2,7 @@
 
 pub mod c;
 pub mod list;
+pub mod mode;
 pub mod rust;
 
 use hornbillrug::{Format, Record, Refusal, StationRefusal};
@@ -39,7 +40,8 @@ pub trait Calls {
     fn record(format: &Format) -> Record;
 }
 
-/// Makes a test of each generic function, for the Rust crate and for C.
+/// Makes a test of each generic function, for the Rust crate and for C, and again in each
+/// floating-point mode.
 #[macro_export]
 macro_rules! over_both {
     ($($test:ident),* $(,)?) => {
@@ -48,6 +50,14 @@ macro_rules! over_both {
         }
         mod c {
             $(#[test] fn $test() { super::$test::<$crate::c::C>() })*
+        }
+        mod rust_in_each_mode {
+            use $crate::{mode::{each, Inside}, rust::Rust};
+            $(#[test] fn $test() { each(super::$test::<Inside<Rust>>) })*
+        }
+        mod c_in_each_mode {
+            use $crate::{c::C, mode::{each, Inside}};
+            $(#[test] fn $test() { each(super::$test::<Inside<C>>) })*
         }
     };
 }

@@ -18,6 +18,12 @@
 //! ```
 //!
 //! Where a call refuses, the buffer is as it was. Past a text, it is as it was too.
+//!
+//! No answer depends on the floating-point mode that some other code of the process has set: neither
+//! on the rounding direction, nor on denormals being taken for zero or flushed to zero. Only where it
+//! has unmasked exceptions may a call raise one, since it tells a NaN by comparing the float with
+//! itself: invalid, for a signalling NaN to be written, and denormal operand, for a denormal in any
+//! call but the two that only read.
 
 #![no_std]
 #![warn(missing_docs)]
