@@ -1,4 +1,4 @@
--- Integers: floor and remainder by b, which natural number lies between two, and an exponent of 16 bits. Assumes nothing.
+-- Integers: floor and remainder by b, differences, and integers that lie between two ends. Assumes nothing.
 use Prim.Native.Nat.{ℕ, zero, suc, _+_, _-_, _*_, _/_, _%_, _≤_, _<_}
 use mathlib.Core.Path.{_≡_, refl, sym, ap, ap₂, _∙_}
 use native.Mathlib.Nat.{div-add-mod, mod-lt, mul-comm, mul-add, mul-suc, mul-zero, mul-pos, mul-add-div, add-comm, le-trans, le-of-eq, lt-of-lt-of-le, lt-of-not-le, div-lt-iff-lt-mul, le-div-iff-mul-le, div-eq-of-lt, zero-lt-suc}
