@@ -9,7 +9,7 @@ ghost use Rattle.lexical_util.specs.Exponent.{significantBits, scale, Le
 // In bits: e, s, or any exponent of two.
 pub struct BitExponent(pub i32);
 
-// In digits: p, the place of a digit.
+// In digits: p, the place of a digit, or how many of them stand behind a point.
 pub struct DigitExponent(pub i32);
 
 // In powers of the base, as a text has it: whether it is negative, and its magnitude.
@@ -56,11 +56,11 @@ pub fn sci_exp(value: Magnitude) -> BitExponent
     ensures { λ r. ⌜ r .0 ≡ clamped (scale (value .mantissa) (value .exponent .0)) ⌝ }
     ensures leading { λ r. ⌜ (0 < value .mantissa → clamped (scale (value .mantissa) (value .exponent .0)) ≡ scale (value .mantissa) (value .exponent .0) → LeadingBit (value .mantissa) (value .exponent .0) (r .0)) ⌝ }
 {
-    let exponent = value.exponent;
     let bits = significant_bits(value.mantissa);
     if bits == 0 {
         return BitExponent(0);
     }
+    let exponent = value.exponent;
     raised(exponent, bits - 1)
 }
 

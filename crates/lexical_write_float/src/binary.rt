@@ -29,7 +29,6 @@ pub(crate) fn normalized(value: Magnitude) -> Magnitude
     ensures { λ r. ⌜ ofMagnitude r ≡ normal (value .mantissa) (value .exponent .0) ⌝ }
 {
     let mantissa = value.mantissa;
-    let exponent = value.exponent;
     if mantissa == 0 {
         return Magnitude {
             mantissa: 0,
@@ -38,6 +37,7 @@ pub(crate) fn normalized(value: Magnitude) -> Magnitude
     }
     let zeros = u64::trailing_zeros(mantissa);
     let odd = mantissa >> zeros;
+    let exponent = value.exponent;
     Magnitude {
         mantissa: odd,
         exponent: raised(exponent, zeros),
@@ -87,7 +87,6 @@ pub(crate) fn truncate_and_round(
     ensures { λ r. ⌜ ofMagnitude r ≡ limited mode «bits_per_digit» digits (value .mantissa) (value .exponent .0) ⌝ }
 {
     let mantissa = value.mantissa;
-    let exponent = value.exponent;
     if digits == 0 {
         return value;
     }
@@ -102,6 +101,7 @@ pub(crate) fn truncate_and_round(
     }
     let cut = below - keep;
     let units = round_to_units(mantissa, cut, mode);
+    let exponent = value.exponent;
     normalized(Magnitude {
         mantissa: units,
         exponent: raised(exponent, cut),

@@ -22,7 +22,7 @@ significant-bits-requires c κs = search needs
 returns : tie.Need-returns
 returns c =
     let k = c .before in
-    led (k .before .before) (ap clamped (scale-zero _ _ (sym (k .significant-bits .ensures .0) ∙ c .if1 .taken)))
+    led (k .before) (ap clamped (scale-zero _ _ (sym (k .significant-bits .ensures .0) ∙ c .if1 .taken)))
 
 sub-raised : tie.Need-sub-raised
 sub-raised c = search needs
@@ -32,9 +32,10 @@ raised-requires c κs = tt
 
 returns-2 : tie.Need-returns-2
 returns-2 c =
-    let k = c .before .before in
-    let s = k .before .before in
-    let some : 0 < s .args .value .mantissa = pos-of-ne-zero (λ e. c .before .if1 .left (k .significant-bits .ensures .0 ∙ ap size e ∙ size-zero)) in
+    let g = c .before .before in
+    let k = g .before in
+    let s = k .before in
+    let some : 0 < s .args .value .mantissa = pos-of-ne-zero (λ e. g .if1 .left (k .significant-bits .ensures .0 ∙ ap size e ∙ size-zero)) in
     let e = s .args .value .exponent .0 in
     led s (c .raised .ensures ∙ ap clamped (ap (λ (n : ℕ). e +ℤ pos (n - 1)) (k .significant-bits .ensures .0) ∙ sym (scale-is (s .args .value .mantissa) e some)))
 

@@ -21,7 +21,7 @@ near : (c : tie.Start) → Between 8000 8000 (c .args .value .exponent .0)
 near c = between-wider 4000 4000 8000 8000 (c .args .value .exponent .0) (omega arith) (omega arith) (c .pre .1)
 
 abbrev start : tie.After-kept-bits → tie.Start
-start c = c .before .before .before .before .before
+start c = c .before .before .before .before
 
 some : (c : tie.After-kept-bits) → 0 < start c .args .value .mantissa
 some c = pos-of-ne-zero (c .before .before .if2 .left)
@@ -42,14 +42,14 @@ cut c = c .significant-bits .result - 1 - c .before .kept-bits .result
 few : (c : tie.After-significant-bits) → cut c ≤ 64
 few c = omega (arith, bits c)
 
-higher : (c : tie.After-raised) → let g = c .before .before .before in c .raised .result .0 ≡ start (g .before) .args .value .exponent .0 +ℤ pos (cut g)
-higher c = let g = c .before .before .before in let s = start (g .before) in c .raised .ensures ∙ raised-is (s .args .value .exponent .0) (cut g) (near s) (few g)
+higher : (c : tie.After-raised) → let g = c .before .before .before .before in c .raised .result .0 ≡ start (g .before) .args .value .exponent .0 +ℤ pos (cut g)
+higher c = let g = c .before .before .before .before in let s = start (g .before) in c .raised .ensures ∙ raised-is (s .args .value .exponent .0) (cut g) (near s) (few g)
 
 returns : tie.Need-returns
-returns c = let a = c .before .before .args in limited-none (a .mode) (a .bits-per-digit) (a .digits) (a .value .mantissa) (a .value .exponent .0) (c .if1 .taken)
+returns c = let a = c .before .args in limited-none (a .mode) (a .bits-per-digit) (a .digits) (a .value .mantissa) (a .value .exponent .0) (c .if1 .taken)
 
 returns-2 : tie.Need-returns-2
-returns-2 c = let a = c .before .before .before .args in limited-zero (a .mode) (a .bits-per-digit) (a .digits) (a .value .mantissa) (a .value .exponent .0) (c .if2 .taken)
+returns-2 c = let a = c .before .before .args in limited-zero (a .mode) (a .bits-per-digit) (a .digits) (a .value .mantissa) (a .value .exponent .0) (c .if2 .taken)
 
 sci-exp-requires : tie.Need-sci-exp-requires
 sci-exp-requires c κs = tt
@@ -83,14 +83,14 @@ raised-requires : tie.Need-raised-requires
 raised-requires c κs = tt
 
 normalized-requires-2 : tie.Need-normalized-requires-2
-normalized-requires-2 c κs = let g = c .before .before .before in let s = start (g .before) in rw (higher c) (raised-near (s .args .value .exponent .0) (cut g) (s .pre .1) (few g))
+normalized-requires-2 c κs = let g = c .before .before .before .before in let s = start (g .before) in rw (higher c) (raised-near (s .args .value .exponent .0) (cut g) (s .pre .1) (few g))
 
 returns-4 : tie.Need-returns-4
 returns-4 c =
-    let g = c .before .before .before .before in
+    let g = c .before .before .before .before .before in
     let a = start (g .before) .args in
     c .normalized2 .ensures
-    ∙ ap₂ normal (c .before .before .round-to-units .ensures) (higher (c .before))
+    ∙ ap₂ normal (c .before .before .before .round-to-units .ensures) (higher (c .before))
     ∙ sym (limited-cut (a .mode) (a .bits-per-digit) (a .digits) (a .value .mantissa) (a .value .exponent .0) (omega arith) (omega arith) (some (g .before)) (g .before .kept-bits .result) (keep-is (g .before)) (cut g) (omega (arith, bits g)) (omega arith))
 
 pub truncate-and-round-spec : {M : Type 1} → statement M
