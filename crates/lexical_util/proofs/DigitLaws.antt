@@ -51,7 +51,7 @@ value-byte d h = go (ltb d 10) refl
         rw (byte-capital d k) (value-capital (55 + d) (omega arith) (omega arith) ∙ ap some (let z : 55 + d - 55 ≡ d = omega arith in z))
 
 -- a byte with a digit value is that digit's byte
-pub byte-value : (x d : ℕ) → digitValue x ≡ some d → (digitByte d ≡ x) × (d < 32)
+byte-value : (x d : ℕ) → digitValue x ≡ some d → digitByte d ≡ x
 unfolding digitValue
 byte-value x d = go (leb 48 x) refl (leb x 57) refl (leb 65 x) refl (leb x 86) refl
   where
@@ -61,22 +61,22 @@ byte-value x d = go (leb 48 x) refl (leb x 57) refl (leb 65 x) refl (leb x 86) r
     empty : none ≡ some d → ⊥
     empty p = let z : _≡_ {A = ℕ} 0 1 = cc in omega arith
 
-    capital : (a b : Bool) → leb 65 x ≡ a → leb x 86 ≡ b → cond (a && b) (some (x - 55)) none ≡ some d → (digitByte d ≡ x) × (d < 32)
+    capital : (a b : Bool) → leb 65 x ≡ a → leb x 86 ≡ b → cond (a && b) (some (x - 55)) none ≡ some d → digitByte d ≡ x
     capital true true p q e =
         let h = leb-true 65 x p in
         let k = leb-true x 86 q in
         let s = same (x - 55) e in
-        (byte-capital d (omega arith) ∙ (let z : 55 + d ≡ x = omega arith in z), omega arith)
+        byte-capital d (omega arith) ∙ (let z : 55 + d ≡ x = omega arith in z)
     capital true false p q e = absurd (empty e)
     capital false b p q e = absurd (empty e)
 
     go : (a : Bool) → leb 48 x ≡ a → (b : Bool) → leb x 57 ≡ b → (a′ : Bool) → leb 65 x ≡ a′ → (b′ : Bool) → leb x 86 ≡ b′
-        → cond (a && b) (some (x - 48)) (cond (a′ && b′) (some (x - 55)) none) ≡ some d → (digitByte d ≡ x) × (d < 32)
+        → cond (a && b) (some (x - 48)) (cond (a′ && b′) (some (x - 55)) none) ≡ some d → digitByte d ≡ x
     go true p true q a′ r b′ s e =
         let h = leb-true 48 x p in
         let k = leb-true x 57 q in
         let w = same (x - 48) e in
-        (byte-figure d (omega arith) ∙ (let z : 48 + d ≡ x = omega arith in z), omega arith)
+        byte-figure d (omega arith) ∙ (let z : 48 + d ≡ x = omega arith in z)
     go true p false q a′ r b′ s e = capital a′ b′ r s e
     go false p b q a′ r b′ s e = capital a′ b′ r s e
 
@@ -99,5 +99,5 @@ in-digit radix x d = go (digitValue x) refl
         at : (b : Bool) → ltb v radix ≡ b → cond b (some v) none ≡ some d → (digitByte d ≡ x) × (d < radix)
         at true q e =
             let same : v ≡ d = cc in
-            (byte-value x d (p ∙ e) .0, rw same at (ltb-true v radix q))
+            (byte-value x d (p ∙ e), rw same at (ltb-true v radix q))
         at false q e = absurd (empty e)
