@@ -1,5 +1,5 @@
 -- The normal form of a float's mantissa and exponent is the float itself, for both widths. Assumes nothing.
-use Prim.Native.Nat.{ℕ, zero, suc, _+_, _-_, _*_, _%_, _^_, _<_}
+use Prim.Native.Nat.{ℕ, zero, suc, _+_, _*_, _%_, _^_, _<_}
 use mathlib.Core.Path.{_≡_, refl, sym, ap, ap₂, _∙_, subst}
 use mathlib.Core.Bool.{false}
 use native.Mathlib.Nat.{lt-of-lt-of-le, mul-one, one-mul, zero-mul, mul-assoc, mul-pos, zero-add, zero-lt-suc, pow-suc}

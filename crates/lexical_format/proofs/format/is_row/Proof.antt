@@ -1,10 +1,10 @@
 -- `lexical_format::format::is_row` meets its contract: the bits of a row are always few enough. Assumes nothing.
 use mathlib.Core.Path.{_≡_, sym, _∙_}
-use mathlib.Core.Bool.{true, _&&_}
+use mathlib.Core.Bool.{_&&_}
 use mathlib.Core.Logic.{⊎-elim}
 use native.Mathlib.Omega.{arith}
 use borrow.Author.Tests.{eq-eqb, ne-eqb, le-leb}
-use lib.Dec.{eqb, leb}
+use lib.Dec.{eqb}
 use Rattle.lexical_format.proofs.format.is_row.Statement.{statement}
 use Rattle.lexical_format.proofs.format.is_row.Tie as tie
 

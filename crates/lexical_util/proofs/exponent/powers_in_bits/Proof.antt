@@ -3,8 +3,7 @@ use Prim.Native.Nat.{ℕ, _*_, _≤_}
 use mathlib.Core.Path.{_≡_, sym, ap, _∙_}
 use mathlib.Core.Bool.{Bool}
 use native.Mathlib.Omega.{arith}
-use lib.IntN.{ℤ, pos, _*ℤ_}
-use borrow.Author.Needs.{needs}
+use lib.IntN.{pos, _*ℤ_}
 use Rattle.lexical_util.specs.Exponent.{clamped, signed}
 use Rattle.lexical_util.proofs.ExponentLaws.{power-fits, power-casts, power-above, power-below-fits, power-below, few-same}
 use Rattle.lexical_util.proofs.exponent.powers_in_bits.Statement.{statement}
