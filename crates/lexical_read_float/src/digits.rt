@@ -7,6 +7,10 @@ ghost use Rattle.lexical_util.specs.Digit.{digitValue, digitsValue};
 ghost use Rattle.lexical_read_float.specs.Kept.{keepDigits};
 ghost use Rattle.lexical_read_float.specs.Digits.{IsValue, allZero, digitsFrom, endFrom, Filled};
 use crate::kept::Kept;
+use lexical_util::BitExponent;
+use lexical_util::DigitExponent;
+use lexical_util::digits_in_bits;
+use lexical_util::height_above;
 
 // Digits that went into the bits: where they end, and the bits.
 struct LeadingDigits {
@@ -123,13 +127,14 @@ pub(crate) fn mantissa_digits(
         };
     }
     let further = further_digits(text, end, radix);
-    let count = (further.end - end) as u32;
-    let lower = below + b * count;
+    let count = further.end - end;
+    let lower = digits_in_bits(DigitExponent(count as i32), b);
+    let under = below + height_above(lower, BitExponent(0));
     MantissaDigits {
         end: further.end,
         kept: Kept {
             bits,
-            below: lower,
+            below: under,
             clear: both(clear, further.clear),
         },
     }

@@ -203,6 +203,10 @@ abs-times b (negsuc n) = abs-negative (b * suc n)
     abs-negative zero = refl
     abs-negative (suc k) = refl
 
+-- so many digits have so many bits
+pub digits-height : (b n : ℕ) → b * n < 2147483648 → heightAbove (clamped (pos b *ℤ pos n)) (pos 0) ≡ b * n
+digits-height b n h = ap (λ (z : ℤ). heightAbove z (pos 0)) (clamped-is (pos (b * n)) h) ∙ height-up (b * n) .0
+
 pub height-few : (b : ℕ) (z : ℤ) → let w = clamped (pos b *ℤ z) in (heightAbove w (pos 0) ≤ b * natAbs z) × (heightAbove (pos 0) w ≤ b * natAbs z)
 height-few b z = let w = height-le (pos b *ℤ z) in let e = abs-times b z in (omega (arith, w .0, e), omega (arith, w .1, e))
 

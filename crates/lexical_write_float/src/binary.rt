@@ -18,6 +18,8 @@ use lexical_util::BitExponent;
 use lexical_util::DigitExponent;
 use lexical_util::Magnitude;
 use lexical_util::calculate_shl;
+use lexical_util::digits_in_bits;
+use lexical_util::height_above;
 use lexical_util::raised;
 use lexical_util::sci_exp;
 use lexical_util::significant_bits;
@@ -73,7 +75,9 @@ fn kept_bits(s: BitExponent, bits_per_digit: u32, digits: u32) -> u32
     ensures { λ r. ⌜ r ≡ «bits_per_digit» * (digits - 1) + modulo (s .0) «bits_per_digit» ⌝ }
 {
     let first = calculate_shl(s, bits_per_digit);
-    bits_per_digit * (digits - 1) + first
+    let count = digits - 1;
+    let others = digits_in_bits(DigitExponent(count as i32), bits_per_digit);
+    height_above(others, BitExponent(0)) + first
 }
 
 // At most `digits` digits, 0 no limit: document 01, "Digit limit".

@@ -1,34 +1,55 @@
 -- `lexical_write_float::binary::kept_bits` meets its contract: s mod b bits in the first digit, and b in each other. Assumes nothing.
-use Prim.Native.Nat.{ℕ, _+_, _-_, _*_, _≤_, _<_}
-use mathlib.Core.Path.{ap}
-use native.Mathlib.Nat.{mul-le-mul, lt-of-le-of-lt}
+use Prim.Native.Nat.{ℕ, _+_, _-_, _*_, _≤_}
+use mathlib.Core.Path.{_≡_, ap, ap₂, _∙_}
+use native.Mathlib.Nat.{mul-le-mul}
 use native.Mathlib.Omega.{arith}
 use borrow.Author.Needs.{needs}
+use lib.IntN.{ℤ, pos}
+use mir.Syntax.{w32}
+use mir.Facts.{toZ-pos}
+use Rattle.lexical_util.specs.Exponent.{heightAbove}
+use Rattle.lexical_util.proofs.ExponentLaws.{digits-height}
 use Rattle.lexical_write_float.proofs.binary.kept_bits.Statement.{statement}
 use Rattle.lexical_write_float.proofs.binary.kept_bits.Tie as tie
 
 -- at most 5 bits a digit
-others : {b n : ℕ} → b ≤ 5 → n ≤ 1200 → b * n ≤ 6000
-others {b} {n} h l = mul-le-mul {n₁ = b} {m₁ = n} {n₂ = 5} {m₂ = 1200} h l
-
-sum : {x r : ℕ} → x ≤ 6000 → r < 5 → x + r < 4294967296
-sum h l = omega arith
+few : {b n : ℕ} → b ≤ 5 → n ≤ 1200 → b * n ≤ 6000
+few {b} {n} h l = mul-le-mul {n₁ = b} {m₁ = n} {n₂ = 5} {m₂ = 1200} h l
 
 calculate-shl-requires : tie.Need-calculate-shl-requires
 calculate-shl-requires c κs = tt
 
-sub-result : tie.Need-sub-result
-sub-result c = search needs
+sub-count : tie.Need-sub-count
+sub-count c = search needs
 
-mul-result : tie.Need-mul-result
-mul-result c = record { fits = lt-of-le-of-lt (others (omega arith) (omega arith)) (omega arith) }
+cast-t7 : tie.Need-cast-t7
+cast-t7 c = search needs
+
+digits-in-bits-requires : tie.Need-digits-in-bits-requires
+digits-in-bits-requires c κs = tt
+
+height-above-requires : tie.Need-height-above-requires
+height-above-requires c κs = tt
+
+-- the digits behind the first, in bits
+few-others : (c : tie.After-height-above) → let a = c .before .before .before .args in a .bits-per-digit * (a .digits - 1) ≤ 6000
+few-others c = few (c .before .before .before .pre .1) (omega arith)
+
+others-are : (c : tie.After-height-above) → let a = c .before .before .before .args in c .height-above .result ≡ a .bits-per-digit * (a .digits - 1)
+others-are c =
+    let a = c .before .before .before .args in
+    c .height-above .ensures
+    ∙ ap (λ (z : ℤ). heightAbove z (pos 0)) (c .before .digits-in-bits .ensures)
+    ∙ rw (toZ-pos w32 {n = a .digits - 1} (omega arith)) (digits-height _ (a .digits - 1) (omega (arith, few-others c)))
 
 add-result : tie.Need-add-result
-add-result c = record { fits = sum (others (omega arith) (omega arith)) (omega (arith, c .calculate-shl .ensures .1 (c .before .pre .0))) }
+add-result c =
+    let s = c .before .before in
+    omega (arith, others-are c, few-others c, s .calculate-shl .ensures .1 (s .before .pre .0))
 
 returns : tie.Need-returns
-returns c = let a = c .before .args in ap (λ (r : ℕ). a .bits-per-digit * (a .digits - 1) + r) (c .calculate-shl .ensures .0)
+returns c = ap₂ _+_ (others-are c) (c .before .before .calculate-shl .ensures .0)
 
 pub kept-bits-spec : {M : Type 1} → statement M
 kept-bits-spec =
-    tie.close (tie.spec calculate-shl-requires sub-result mul-result add-result returns)
+    tie.close (tie.spec calculate-shl-requires sub-count cast-t7 digits-in-bits-requires height-above-requires add-result returns)
