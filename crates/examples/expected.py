@@ -113,6 +113,17 @@ def float_lines():
         yield made_line(width, True, m, e)
 
 
+ORDER = (
+    0x7FF8000000000000, 0xFFF0000000000000, 0xFFEFFFFFFFFFFFFF, 0xBFF0000000000000, 0x8000000000000000,
+    0, 1, 2, 0x3FF0000000000000, 0x7FF0000000000000,
+)
+
+
+def order_lines():
+    for x in ORDER:
+        yield f"{x:x} is below " + "".join(str(int(float_of("f64", x) < float_of("f64", y))) for y in ORDER)
+
+
 # ---- the three exponents. No pair has b = 0 or c = 0; there docs/DECISIONS.md settles the answer (point 40).
 
 PAIRS = {
@@ -127,12 +138,32 @@ def scaled_line(s, b, c):
     return f"s {s}, b {b}, c {c}: p {p}, {'-' if p < 0 else ''}{power}"
 
 
+def held(x):
+    """A number as 32 bits hold it: past an end, that end."""
+    return max(-(2**31), min(2**31 - 1, x))
+
+
+def counted_line(n, b):
+    mod = n % b if b != 0 else max(n, 0)
+    zeros = max(abs(n) - 1, 0)
+    return f"{n} of b {b}: mod {mod}, zeros {zeros}, places {abs(n) + 1}, digits {held(n * b)}, powers {held(n * b)}, raised {held(n + b)}"
+
+
+def height_line(e, d):
+    return f"{e} is {'' if e < d else 'not '}below {d}, and stands above it by {max(e - d, 0)}"
+
+
 def exponent_lines():
     for s in (-1074, -5, -4, -1, 0, 4, 1023):
         for b, c in PAIRS.values():
             yield scaled_line(s, b, c)
     for s, b, c in ((-(2**31), 1, 1), (-(2**31), 2**32 - 1, 1), (2**31 - 1, 0, 1), (-(2**31), 0, 1), (-1, 4, 0)):
         yield scaled_line(s, b, c)
+    for n in (-(2**31), -1074, -5, -4, -1, 0, 4, 1023, 2**31 - 1):
+        for b in (0, 1, 4, 5, 2**32 - 1):
+            yield counted_line(n, b)
+    for e, d in ((-1022, -1074), (-1074, -1074), (-1075, -1074), (2**31 - 1, -(2**31)), (-(2**31), 2**31 - 1)):
+        yield height_line(e, d)
     for value in (0, 1, 2**52 - 1, 2**52, 2**63 - 1, 2**64 - 1):
         yield f"{value} has {value.bit_length()} bits"
 
@@ -301,6 +332,6 @@ def refusal_lines():
         yield from both(bits_of("f64", -1.5), bits_of("f32", -1.5), case, 0)
 
 
-for lines in (digit_lines, float_lines, exponent_lines, format_lines, text_lines):
+for lines in (digit_lines, float_lines, order_lines, exponent_lines, format_lines, text_lines):
     for line in lines():
         print(line)

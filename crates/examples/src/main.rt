@@ -3,12 +3,14 @@ mod digits;
 mod exponents;
 mod floats;
 mod formats;
+mod order;
 mod print;
 mod texts;
 
 fn main() {
     digits::run();
     floats::run();
+    order::run();
     exponents::run();
     formats::run();
     texts::run();
