@@ -8,8 +8,8 @@ use Rattle.lexical_format.specs.declared.format.NumberFormat.{NumberFormat}
 use Rattle.lexical_format.specs.declared.options.Options.{Options}
 use Rattle.lexical_format.specs.declared.options.RoundMode.{RoundMode}
 use Rattle.lexical_format.specs.declared.options.RoundMode.the-variants.{Round, Truncate}
-use Rattle.lexical_rewriting.specs.declared.text_format.TextFormat.{TextFormat}
-use Rattle.lexical_rewriting.specs.Chain.{Chained, arrived, readingRefusedAt, writingRefusedAt}
+use Rattle.lexical_rewrite_spec.specs.declared.text_format.TextFormat.{TextFormat}
+use Rattle.lexical_rewrite_spec.specs.Chain.{Chained, arrived, readingRefusedAt, writingRefusedAt}
 use Rattle.export_structs.specs.declared.answer.Answer.{Answer}
 use Rattle.export_structs.specs.declared.answer.AnswerF64.{AnswerF64}
 use Rattle.export_structs.specs.declared.answer.AnswerF32.{AnswerF32}

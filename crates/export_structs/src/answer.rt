@@ -1,7 +1,7 @@
 // Answers as they cross. No enum does, so each is a struct of numbers: the refusal's number, 0 where nothing was refused, its place, and what was asked for.
 ghost use mathlib.Core.Path.{_≡_};
 ghost use Rattle.lexical_util.specs.Answer.{ofWritten};
-ghost use Rattle.lexical_rewriting.specs.Chain.{atStation};
+ghost use Rattle.lexical_rewrite_spec.specs.Chain.{atStation};
 ghost use Rattle.lexical_read_float.specs.Answer.{ofReadF32, ofReadF64};
 ghost use Rattle.lexical_rewrite.specs.Answer.{ofRewritten, ofChained};
 ghost use Rattle.export_structs.specs.Structs.{answerOf, answerF64Of, answerF32Of, stationAnswerOf};

@@ -4,7 +4,7 @@ ghost use Rattle.export_structs.specs.Structs.{formatOf, modeOf, options
 use lexical_format::NumberFormat;
 use lexical_format::Options;
 use lexical_format::RoundMode;
-use lexical_rewriting::TextFormat;
+use lexical_rewrite_spec::TextFormat;
 
 // A number format and options in one struct. No enum crosses, so the round mode is a flag. In this order no load of the call spans two of the 16-byte stores by which its caller passes the struct.
 #[repr(C)]

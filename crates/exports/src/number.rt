@@ -2,9 +2,9 @@
 ghost use mathlib.Core.Path.{_≡_};
 ghost use lib.Ieee.{binary32, binary64};
 ghost use Rattle.lexical_util.specs.Answer.{written, held};
-ghost use Rattle.lexical_digits.specs.Write.{digitsText};
-ghost use Rattle.lexical_text.specs.Write.{writeText};
-ghost use Rattle.lexical_reading.specs.Read.{readFloat};
+ghost use Rattle.lexical_write_integer_spec.specs.Write.{digitsText};
+ghost use Rattle.lexical_write_float_spec.specs.Write.{writeText};
+ghost use Rattle.lexical_read_float_spec.specs.Read.{readFloat};
 ghost use Rattle.export_structs.specs.Structs.{formatOf, optionsOf, answerOf, answerF64Of, answerF32Of};
 use export_structs::Answer;
 use export_structs::AnswerF32;

@@ -2,7 +2,7 @@
 ghost use mathlib.Core.Path.{_≡_};
 ghost use lib.ListN.{length};
 ghost use Rattle.lexical_util.specs.Answer.{written, held};
-ghost use Rattle.outage.specs.Calls.{tableSheet, sheetTable};
+ghost use Rattle.outage_spec.specs.Calls.{tableSheet, sheetTable};
 ghost use Rattle.export_structs.specs.Structs.{formatOf, optionsOf, answerOf};
 use export_structs::Answer;
 use export_structs::Format;

@@ -1,9 +1,9 @@
 // A text rewritten, by one station or by a chain of them.
 ghost use mathlib.Core.Path.{_≡_};
 ghost use lib.Ieee.{binary32, binary64};
-ghost use Rattle.lexical_rewriting.specs.Rewrite.{readIn, rewriteAnswer, rewriteBytes};
-ghost use Rattle.lexical_rewriting.specs.Record.{formatsOf};
-ghost use Rattle.lexical_rewriting.specs.Chain.{atStation, chainOf};
+ghost use Rattle.lexical_rewrite_spec.specs.Rewrite.{readIn, rewriteAnswer, rewriteBytes};
+ghost use Rattle.lexical_rewrite_spec.specs.Record.{formatsOf};
+ghost use Rattle.lexical_rewrite_spec.specs.Chain.{atStation, chainOf};
 ghost use Rattle.export_structs.specs.Structs.{textFormatOf, stationAnswerOf};
 use export_structs::Format;
 use export_structs::StationAnswer;

@@ -13,9 +13,9 @@ use Rattle.lexical_util.specs.Digit.{AreDigits, digitsValue}
 use Rattle.lexical_util.specs.Exponent.{clamped, heightAbove, signed}
 use Rattle.lexical_util.proofs.ExponentLaws.{clamped-is, height-up, height-down, times-signed, signed-held}
 use Rattle.lexical_format.specs.declared.format.Pair.{Pair}
-use Rattle.lexical_reading.specs.Shape.{Shape}
-use Rattle.lexical_reading.specs.Read.{magnitude, isNegative, basePower, numerator, denominator, floatOf, valueOf}
-use Rattle.lexical_reading.proofs.ReadLaws.{value-within, value-beyond}
+use Rattle.lexical_read_float_spec.specs.Shape.{Shape}
+use Rattle.lexical_read_float_spec.specs.Read.{magnitude, isNegative, basePower, numerator, denominator, floatOf, valueOf}
+use Rattle.lexical_read_float_spec.proofs.ReadLaws.{value-within, value-beyond}
 use Rattle.lexical_read_float.specs.declared.scan.Number.{Number}
 use Rattle.lexical_read_float.specs.declared.bits.Powers.{Powers}
 use Rattle.lexical_read_float.specs.Bits.{powersOf}

@@ -14,7 +14,7 @@ use lib.Dec.{ltb, eqb}
 use lib.ListN.{length, drop, getD, drop-of-length-le}
 use lib.Seq.{drop-cons}
 use Rattle.lexical_util.specs.Digit.{digitValue, digitIn, readOn}
-use Rattle.lexical_reading.specs.Parse.{more, run}
+use Rattle.lexical_read_float_spec.specs.Parse.{more, run}
 use Rattle.lexical_read_float.specs.Digits.{IsValue, digitsFrom, endFrom, allZero}
 
 -- ---- the digit of a radix that a byte is, by a number that tells its digit value

@@ -15,7 +15,7 @@ use Rattle.lexical_util.proofs.PowerLaws.{size-more}
 use Rattle.lexical_float.specs.declared.encoding.Encoding.{Encoding}
 use Rattle.lexical_float.specs.Encoding.{encodingOf}
 use Rattle.lexical_float.proofs.EncodingLaws.{hidden-few}
-use Rattle.lexical_reading.specs.Read.{floatOf}
+use Rattle.lexical_read_float_spec.specs.Read.{floatOf}
 use Rattle.lexical_round.specs.Guard.{Leading, isClear, guarded, upward, raised}
 use Rattle.lexical_round.specs.Pattern.{lift, belowGuard, pattern, ceiling, infinity}
 use Rattle.lexical_round.proofs.RoundLaws.{pattern-le, leading-float, shifted-float, zero-float}

@@ -13,11 +13,11 @@ use lib.ListN.{length, drop, getD, length-drop, drop-of-length-le}
 use lib.Seq.{drop-cons, drop-drop}
 use Rattle.lexical_util.specs.Digit.{digitIn, digitsValue}
 use Rattle.lexical_util.specs.declared.exponent.DigitExponent.{DigitExponent}
-use Rattle.lexical_reading.specs.Shape.{Grammar, Sign, unsigned, plus, minus, Tail, exponent}
-use Rattle.lexical_reading.specs.Parse.{more, run, Parsed, found, stuck, mapParsed, allDigits, exponentDigits, signedExponent, parseTail, withTail, afterWhole, oneOrMore, parse}
-use Rattle.lexical_reading.specs.Read.{isNegative, exponentPlace}
-use Rattle.lexical_reading.proofs.RunLaws.{Head}
-use Rattle.lexical_reading.proofs.ParseLaws.{no-point}
+use Rattle.lexical_read_float_spec.specs.Shape.{Grammar, Sign, unsigned, plus, minus, Tail, exponent}
+use Rattle.lexical_read_float_spec.specs.Parse.{more, run, Parsed, found, stuck, mapParsed, allDigits, exponentDigits, signedExponent, parseTail, withTail, afterWhole, oneOrMore, parse}
+use Rattle.lexical_read_float_spec.specs.Read.{isNegative, exponentPlace}
+use Rattle.lexical_read_float_spec.proofs.RunLaws.{Head}
+use Rattle.lexical_read_float_spec.proofs.ParseLaws.{no-point}
 use Rattle.lexical_read_float.specs.declared.kept.Kept.{Kept}
 use Rattle.lexical_read_float.specs.declared.scan.Mantissa.{Mantissa}
 use Rattle.lexical_read_float.specs.declared.scan.ScannedTail.{ScannedTail}

@@ -18,12 +18,12 @@ use Rattle.lexical_format.specs.declared.checks.ReadingCheck.{ReadingCheck}
 use Rattle.lexical_format.specs.declared.checks.ReadingCheck.the-variants.{Passed, Refused}
 use Rattle.lexical_format.specs.Format.{readingFormat, ofReadingCheck}
 use Rattle.lexical_format.proofs.FormatLaws.{readable}
-use Rattle.lexical_reading.specs.Shape.{Shape}
-use Rattle.lexical_reading.specs.Parse.{Parsed, found, stuck, parse, ofParsed, shapeOf}
-use Rattle.lexical_reading.specs.Read.{grammarOf, valueOf, readText, readFloat}
-use Rattle.lexical_reading.specs.Claims.{IsNearest, IsServed}
-use Rattle.lexical_reading.proofs.RunLaws.{digits-append}
-use Rattle.lexical_reading.proofs.ReadLaws.{found-is-printed, answer-nearest, texts-are-served}
+use Rattle.lexical_read_float_spec.specs.Shape.{Shape}
+use Rattle.lexical_read_float_spec.specs.Parse.{Parsed, found, stuck, parse, ofParsed, shapeOf}
+use Rattle.lexical_read_float_spec.specs.Read.{grammarOf, valueOf, readText, readFloat}
+use Rattle.lexical_read_float_spec.specs.Claims.{IsNearest, IsServed}
+use Rattle.lexical_read_float_spec.proofs.RunLaws.{digits-append}
+use Rattle.lexical_read_float_spec.proofs.ReadLaws.{found-is-printed, answer-nearest, texts-are-served}
 use Rattle.lexical_read_float.specs.declared.scan.Number.{Number}
 use Rattle.lexical_read_float.specs.declared.scan.Scanned.{Scanned}
 use Rattle.lexical_read_float.specs.declared.scan.Scanned.the-variants as scanned

@@ -6,7 +6,7 @@ use mathlib.Core.List.{List, [], _∷_}
 use mathlib.Core.Option.{Option, none, some}
 use lib.Dec.{eqb}
 use lib.ListN.{length, drop}
-use Rattle.lexical_reading.specs.Parse.{run}
+use Rattle.lexical_read_float_spec.specs.Parse.{run}
 use Rattle.lexical_read_float.specs.Kept.{full, keepDigits}
 
 -- d tells a digit value: below 32 it is that, and from 32 on there is none

@@ -6,9 +6,9 @@ use lib.Dec.{eqb}
 use lib.IntN.{pos, natAbs}
 use lib.ListN.{length}
 use Rattle.lexical_util.specs.declared.exponent.DigitExponent.{DigitExponent}
-use Rattle.lexical_reading.specs.Shape.{Grammar, Tail, Shape}
-use Rattle.lexical_reading.specs.Parse.{Parsed, found, stuck}
-use Rattle.lexical_reading.specs.Read.{magnitude, isNegative, exponentPlace}
+use Rattle.lexical_read_float_spec.specs.Shape.{Grammar, Tail, Shape}
+use Rattle.lexical_read_float_spec.specs.Parse.{Parsed, found, stuck}
+use Rattle.lexical_read_float_spec.specs.Read.{magnitude, isNegative, exponentPlace}
 use Rattle.lexical_read_float.specs.declared.kept.Kept.{Kept}
 use Rattle.lexical_read_float.specs.declared.scan.Mantissa.{Mantissa}
 use Rattle.lexical_read_float.specs.declared.scan.Exponent.{Exponent}

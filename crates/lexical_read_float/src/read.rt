@@ -1,8 +1,8 @@
 // Reading a float: document 01, "Reader". Not derived: the Rust that was given has no reader.
 ghost use mathlib.Core.Path.{_≡_};
 ghost use lib.Ieee.{binary32, binary64};
-ghost use Rattle.lexical_reading.specs.Read.{readFloat};
-ghost use Rattle.lexical_reading.specs.Claims.{IsNearest, IsServed};
+ghost use Rattle.lexical_read_float_spec.specs.Read.{readFloat};
+ghost use Rattle.lexical_read_float_spec.specs.Claims.{IsNearest, IsServed};
 ghost use Rattle.lexical_read_float.specs.Answer.{ofReadF64, ofReadF32};
 use crate::bits::FloatBits;
 use crate::bits::text_bits;

@@ -3,7 +3,7 @@ ghost use mathlib.Core.Path.{_≡_};
 ghost use Prim.Native.Nat.{ℕ, _+_, _*_, _/_, _^_, _≤_, _<_};
 ghost use lib.Ieee.{low};
 ghost use Rattle.lexical_float.specs.Encoding.{formatOf};
-ghost use Rattle.lexical_reading.specs.Read.{floatOf};
+ghost use Rattle.lexical_read_float_spec.specs.Read.{floatOf};
 ghost use Rattle.lexical_round.specs.Guard.{isClear, guarded, raised};
 ghost use Rattle.lexical_round.specs.Pattern.{lift};
 ghost use Rattle.lexical_read_float.specs.Kept.{full, IsFull, Holds};

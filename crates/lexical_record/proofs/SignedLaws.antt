@@ -7,7 +7,7 @@ use lib.IntN.{ℤ, pos, negsuc, _-ℤ_}
 use mir.Syntax.{w32}
 use mir.Val.{SFits, toZ, ofZ}
 use mir.Facts.{toZ-pos, toZ-ofZ}
-use Rattle.lexical_rewriting.specs.Record.{signed}
+use Rattle.lexical_rewrite_spec.specs.Record.{signed}
 
 pub signed-low : (n : ℕ) → n < 32768 → toZ w32 n ≡ signed n
 signed-low n h = toZ-pos w32 {n = n} (omega arith) ∙ rw (lt-ltb n 32768 h)

@@ -1,11 +1,11 @@
 // A format from its record of 19 bytes. Bytes that are missing count as 0.
 ghost use mathlib.Core.Path.{_≡_};
 ghost use Prim.Native.Nat.{_<_};
-ghost use Rattle.lexical_rewriting.specs.Record.{byteAt, flagAt, modeAt, wordAt, signed, numberFormatOf, optionsOf, formatOf};
+ghost use Rattle.lexical_rewrite_spec.specs.Record.{byteAt, flagAt, modeAt, wordAt, signed, numberFormatOf, optionsOf, formatOf};
 use lexical_format::NumberFormat;
 use lexical_format::Options;
 use lexical_format::RoundMode;
-use lexical_rewriting::TextFormat;
+use lexical_rewrite_spec::TextFormat;
 
 fn byte_at(bytes: &[u8], at: usize) -> u8
     ensures { λ r. ⌜ r ≡ byteAt (now (bytes .entry)) at ⌝ }

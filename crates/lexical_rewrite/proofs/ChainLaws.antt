@@ -7,13 +7,13 @@ use borrow.Author.Tests.{lt-ltb, le-ltb}
 use lib.ListN.{length, take, drop, length-drop, length-replicate}
 use lib.Seq.{drop-drop}
 use lib.Ieee.{Format}
-use Rattle.lexical_rewriting.specs.declared.text_format.TextFormat.{TextFormat}
-use Rattle.lexical_rewriting.specs.Rewrite.{Rewriting, rewritten, readingRefused, writingRefused, readIn, rewriteAnswer, rewriteBytes}
-use Rattle.lexical_rewriting.specs.Record.{formatOf, formatsOf}
-use Rattle.lexical_rewriting.specs.Chain.{readingRefusedAt, writingRefusedAt, Outcome, atStation, onward, chain, ownBuffer, stationOf, stationsOf, chainOf}
-use Rattle.lexical_rewriting.proofs.StationLaws.{answer-alike, bytes-alike}
-use Rattle.lexical_rewriting.proofs.DemandLaws.{last-buffer}
-use Rattle.lexical_rewriting.proofs.RecordLaws.{no-records, more-records}
+use Rattle.lexical_rewrite_spec.specs.declared.text_format.TextFormat.{TextFormat}
+use Rattle.lexical_rewrite_spec.specs.Rewrite.{Rewriting, rewritten, readingRefused, writingRefused, readIn, rewriteAnswer, rewriteBytes}
+use Rattle.lexical_rewrite_spec.specs.Record.{formatOf, formatsOf}
+use Rattle.lexical_rewrite_spec.specs.Chain.{readingRefusedAt, writingRefusedAt, Outcome, atStation, onward, chain, ownBuffer, stationOf, stationsOf, chainOf}
+use Rattle.lexical_rewrite_spec.proofs.StationLaws.{answer-alike, bytes-alike}
+use Rattle.lexical_rewrite_spec.proofs.DemandLaws.{last-buffer}
+use Rattle.lexical_rewrite_spec.proofs.RecordLaws.{no-records, more-records}
 use Rattle.lexical_rewrite.specs.Code.{onFrom, sourceAt}
 
 -- ---- the formats of the stations given

@@ -1,6 +1,6 @@
 -- Document 01's numbers and values for each case of `Rewritten` and of `Chained`. Definitions only.
-use Rattle.lexical_rewriting.specs.Rewrite.{Rewriting, rewritten, readingRefused, writingRefused}
-use Rattle.lexical_rewriting.specs.Chain.{Chained, arrived, readingRefusedAt, writingRefusedAt}
+use Rattle.lexical_rewrite_spec.specs.Rewrite.{Rewriting, rewritten, readingRefused, writingRefused}
+use Rattle.lexical_rewrite_spec.specs.Chain.{Chained, arrived, readingRefusedAt, writingRefusedAt}
 use Rattle.lexical_rewrite.specs.declared.rewrite.Rewritten.{Rewritten}
 use Rattle.lexical_rewrite.specs.declared.rewrite.Rewritten.the-variants.{Length, ReadingRefused, WritingRefused}
 use Rattle.lexical_rewrite.specs.declared.chain.Chained.{Chained as ChainAnswer}

@@ -5,9 +5,9 @@ use mathlib.Core.List.{List}
 use lib.Dec.{ltb}
 use lib.ListN.{drop}
 use lib.Ieee.{Format}
-use Rattle.lexical_rewriting.specs.declared.text_format.TextFormat.{TextFormat}
-use Rattle.lexical_rewriting.specs.Record.{formatOf, formatsOf}
-use Rattle.lexical_rewriting.specs.Chain.{Outcome, stationOf, stationsOf, chain}
+use Rattle.lexical_rewrite_spec.specs.declared.text_format.TextFormat.{TextFormat}
+use Rattle.lexical_rewrite_spec.specs.Record.{formatOf, formatsOf}
+use Rattle.lexical_rewrite_spec.specs.Chain.{Outcome, stationOf, stationsOf, chain}
 
 -- station i has the record in front, and the text t stands in the format F
 unfoldable pub onFrom : Format → ℕ → TextFormat → List ℕ → List ℕ → List ℕ → Outcome

@@ -4,10 +4,10 @@ ghost use Prim.Native.Nat.{_≤_, _<_};
 ghost use lib.ListN.{length, take, drop};
 ghost use lib.Ieee.{binary32, binary64};
 ghost use Rattle.lexical_float.specs.Encoding.{formatOf};
-ghost use Rattle.lexical_rewriting.specs.Rewrite.{readIn, rewriteAnswer, rewriteBytes};
-ghost use Rattle.lexical_rewriting.specs.Record.{formatOf as recordFormat, formatsOf};
-ghost use Rattle.lexical_rewriting.specs.Chain.{atStation, chainOf};
-ghost use Rattle.lexical_rewriting.specs.Demand.{NeverLost};
+ghost use Rattle.lexical_rewrite_spec.specs.Rewrite.{readIn, rewriteAnswer, rewriteBytes};
+ghost use Rattle.lexical_rewrite_spec.specs.Record.{formatOf as recordFormat, formatsOf};
+ghost use Rattle.lexical_rewrite_spec.specs.Chain.{atStation, chainOf};
+ghost use Rattle.lexical_rewrite_spec.specs.Demand.{NeverLost};
 ghost use Rattle.lexical_rewrite.specs.Answer.{ofRewritten, ofChained};
 ghost use Rattle.lexical_rewrite.specs.Code.{onFrom, sourceAt};
 use crate::rewrite::Rewritten;
@@ -18,7 +18,7 @@ use crate::rewrite::write_read_f64;
 use lexical_float::Width;
 use lexical_read_float::read_f32;
 use lexical_read_float::read_f64;
-use lexical_rewriting::TextFormat;
+use lexical_rewrite_spec::TextFormat;
 use lexical_util::Refusal;
 
 // The length of the last text; or a refusal of a station's reading or writing, with the station's number, counted from 0.

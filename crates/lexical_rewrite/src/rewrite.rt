@@ -2,15 +2,15 @@
 ghost use mathlib.Core.Path.{_≡_};
 ghost use lib.Ieee.{binary32, binary64};
 ghost use Rattle.lexical_util.specs.Answer.{ofWritten};
-ghost use Rattle.lexical_rewriting.specs.Rewrite.{byWriting, readIn, rewriteAnswer, rewriteBytes};
-ghost use Rattle.lexical_rewriting.specs.Demand.{SameAsOthers};
+ghost use Rattle.lexical_rewrite_spec.specs.Rewrite.{byWriting, readIn, rewriteAnswer, rewriteBytes};
+ghost use Rattle.lexical_rewrite_spec.specs.Demand.{SameAsOthers};
 ghost use Rattle.lexical_read_float.specs.Answer.{ofReadF32, ofReadF64};
 ghost use Rattle.lexical_rewrite.specs.Answer.{ofRewritten};
 use lexical_read_float::ReadF32;
 use lexical_read_float::ReadF64;
 use lexical_read_float::read_f32;
 use lexical_read_float::read_f64;
-use lexical_rewriting::TextFormat;
+use lexical_rewrite_spec::TextFormat;
 use lexical_util::Refusal;
 use lexical_util::Written;
 use lexical_write_float::write_f32;

@@ -12,7 +12,7 @@ use lib.Ieee.Digits.{size-lt, size-le, size-reaches}
 use lib.Ieee.Nearest.{closest, closest-same}
 use lib.Ieee.Order.{drop, kept}
 use Rattle.lexical_util.proofs.PowerLaws.{size-more, size-pos}
-use Rattle.lexical_reading.proofs.Closest.{closest-is}
+use Rattle.lexical_read_float_spec.proofs.Closest.{closest-is}
 use Rattle.lexical_round.specs.Guard.{Leading, isClear, guarded, raised}
 use Rattle.lexical_round.specs.Pattern.{lift, belowGuard}
 use Rattle.lexical_round.proofs.GuardLaws.{fewer, closest-unique, guarded-closest, Ceiling, scaled, raised-ceiling}

@@ -10,7 +10,7 @@ use lib.Arith.{digits-lt}
 use lib.Dec.{T, eqb, eqb→eq}
 use lib.Pow.{pow-add, pow-pos, split}
 use lib.Ieee.Fits.{and-l, and-r}
-use Rattle.lexical_reading.proofs.Closest.{Closest, tie}
+use Rattle.lexical_read_float_spec.proofs.Closest.{Closest, tie}
 use Rattle.lexical_round.specs.Guard.{Leading, isClear, toNearest, guarded, upward, raised}
 
 -- one of two parts is set

@@ -18,10 +18,10 @@ use lib.Ieee.Order.{drop, kept}
 use lib.Ieee.Scale.{grid}
 use Rattle.lexical_util.proofs.PowerLaws.{size-more}
 use Rattle.lexical_float.proofs.FloatLaws.{bits-of-value}
-use Rattle.lexical_reading.specs.Round.{largest, tooLarge}
-use Rattle.lexical_reading.proofs.Rounded.{Rounded, rounded, kept-range}
-use Rattle.lexical_reading.proofs.LastBit.{double}
-use Rattle.lexical_reading.proofs.Largest.{stepUnits, largest-units, below-edge, below-overflow, round-value}
+use Rattle.lexical_read_float_spec.specs.Round.{largest, tooLarge}
+use Rattle.lexical_read_float_spec.proofs.Rounded.{Rounded, rounded, kept-range}
+use Rattle.lexical_read_float_spec.proofs.LastBit.{double}
+use Rattle.lexical_read_float_spec.proofs.Largest.{stepUnits, largest-units, below-edge, below-overflow, round-value}
 use Rattle.lexical_round.specs.Pattern.{infinity}
 use Rattle.lexical_round.proofs.GuardLaws.{Ceiling}
 

@@ -12,9 +12,9 @@ use lib.Ieee.Exact.{HasValue}
 use lib.Ieee.Scale.{round-same}
 use Rattle.lexical_util.specs.Answer.{Answer, done, refused}
 use Rattle.lexical_float.proofs.FloatLaws.{round-of-value}
-use Rattle.lexical_reading.specs.Round.{largest, tooLarge}
-use Rattle.lexical_reading.specs.Read.{floatOf}
-use Rattle.lexical_reading.proofs.Largest.{not-too-large}
+use Rattle.lexical_read_float_spec.specs.Round.{largest, tooLarge}
+use Rattle.lexical_read_float_spec.specs.Read.{floatOf}
+use Rattle.lexical_read_float_spec.proofs.Largest.{not-too-large}
 use Rattle.lexical_round.specs.Guard.{Leading, isClear}
 use Rattle.lexical_round.specs.Pattern.{belowGuard, pattern, ceiling, infinity}
 use Rattle.lexical_round.proofs.GuardLaws.{guarded-le}

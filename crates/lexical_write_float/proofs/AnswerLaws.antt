@@ -24,15 +24,15 @@ use Rattle.lexical_format.specs.declared.format.Pair.{Pair}
 use Rattle.lexical_format.specs.declared.format.NumberFormat.{NumberFormat}
 use Rattle.lexical_format.specs.declared.options.Options.{Options}
 use Rattle.lexical_format.specs.Format.{writingFormat, settled, checkedFormat}
-use Rattle.lexical_text.specs.declared.layout.Layout.{Layout}
-use Rattle.lexical_text.specs.declared.layout.Layout.the-variants as layouts
-use Rattle.lexical_text.specs.Value.{Value, exactDigits}
-use Rattle.lexical_text.specs.Text.{layoutOf, digitsSoFar, laidOut, text, exponentText}
-use Rattle.lexical_text.specs.Write.{limitedText, floatText, writeText, NoLonger, NeverRefused}
-use Rattle.lexical_text.specs.Range.{Between}
+use Rattle.lexical_write_float_spec.specs.declared.layout.Layout.{Layout}
+use Rattle.lexical_write_float_spec.specs.declared.layout.Layout.the-variants as layouts
+use Rattle.lexical_write_float_spec.specs.Value.{Value, exactDigits}
+use Rattle.lexical_write_float_spec.specs.Text.{layoutOf, digitsSoFar, laidOut, text, exponentText}
+use Rattle.lexical_write_float_spec.specs.Write.{limitedText, floatText, writeText, NoLonger, NeverRefused}
+use Rattle.lexical_write_float_spec.specs.Range.{Between}
 use Rattle.lexical_write_float.specs.Code.{Passed, rowOf, OfFloat, partsText, askedByParts}
 use Rattle.lexical_write_float.proofs.FloatLaws.{float-normal}
-use Rattle.lexical_text.proofs.WriteLaws.{longest-text}
+use Rattle.lexical_write_float_spec.proofs.WriteLaws.{longest-text}
 
 -- ---- the check's answer
 pub passed : (F : NumberFormat) (o : Options) (c : CheckedFormat) → done c ≡ checkedFormat F o → Passed F o c

@@ -17,15 +17,15 @@ use Rattle.lexical_format.specs.declared.checks.CheckedFormat.{CheckedFormat}
 use Rattle.lexical_format.specs.declared.format.NumberFormat.{NumberFormat}
 use Rattle.lexical_format.specs.declared.options.Options.{Options}
 use Rattle.lexical_format.specs.declared.options.RoundMode.{RoundMode}
-use Rattle.lexical_text.specs.Value.{Value, normal}
-use Rattle.lexical_text.specs.Limit.{limited}
-use Rattle.lexical_text.specs.Text.{text}
-use Rattle.lexical_text.specs.Write.{limitedText}
-use Rattle.lexical_text.specs.Range.{Between, Ranged}
+use Rattle.lexical_write_float_spec.specs.Value.{Value, normal}
+use Rattle.lexical_write_float_spec.specs.Limit.{limited}
+use Rattle.lexical_write_float_spec.specs.Text.{text}
+use Rattle.lexical_write_float_spec.specs.Write.{limitedText}
+use Rattle.lexical_write_float_spec.specs.Range.{Between, Ranged}
 use Rattle.lexical_write_float.specs.Code.{ofMagnitude, FloatParts, rowOf, magnitudeText}
-use Rattle.lexical_text.proofs.Integers.{between-wider}
-use Rattle.lexical_text.proofs.ValueLaws.{is-normal, odd-unique}
-use Rattle.lexical_text.proofs.RangeLaws.{in-range, limited-fits}
+use Rattle.lexical_write_float_spec.proofs.Integers.{between-wider}
+use Rattle.lexical_write_float_spec.proofs.ValueLaws.{is-normal, odd-unique}
+use Rattle.lexical_write_float_spec.proofs.RangeLaws.{in-range, limited-fits}
 
 -- ---- 2 ^ e as a fraction of two powers of two
 above : ℤ → ℕ

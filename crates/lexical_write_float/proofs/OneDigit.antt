@@ -6,9 +6,9 @@ use native.Mathlib.Nat.{mod-eq-of-lt, lt-of-lt-of-le}
 use native.Mathlib.Omega.{arith}
 use lib.Bits.{bitAnd}
 use Rattle.lexical_util.specs.Digit.{digitByte}
-use Rattle.lexical_digits.specs.Digits.{numeral}
-use Rattle.lexical_digits.specs.Write.{lastNumeral}
-use Rattle.lexical_digits.proofs.DigitsLaws.{numeral-lt, numeral-ge}
+use Rattle.lexical_write_integer_spec.specs.Digits.{numeral}
+use Rattle.lexical_write_integer_spec.specs.Write.{lastNumeral}
+use Rattle.lexical_write_integer_spec.proofs.DigitsLaws.{numeral-lt, numeral-ge}
 use Rattle.lexical_write_integer.proofs.FillLaws.{masked, masked-lt}
 
 -- of a number below the radix

@@ -10,12 +10,12 @@ use lib.ListN.{length, drop, length-append, length-replicate, length-drop}
 use lib.Seq.{length-take-le, take-all, drop-length}
 use Rattle.lexical_util.specs.Digit.{isRadix}
 use Rattle.lexical_write_float.specs.declared.plan.Plan.{Plan}
-use Rattle.lexical_text.specs.declared.layout.Layout.{Layout}
-use Rattle.lexical_text.specs.declared.layout.Layout.the-variants.{Scientific, Negative, Positive}
-use Rattle.lexical_text.proofs.LengthLaws.{few-digits}
+use Rattle.lexical_write_float_spec.specs.declared.layout.Layout.{Layout}
+use Rattle.lexical_write_float_spec.specs.declared.layout.Layout.the-variants.{Scientific, Negative, Positive}
+use Rattle.lexical_write_float_spec.proofs.LengthLaws.{few-digits}
 use Rattle.lexical_format.specs.declared.format.NumberFormat.{NumberFormat}
 use Rattle.lexical_format.specs.declared.options.Options.{Options}
-use Rattle.lexical_text.specs.Text.{point, least, trim, scientific, negative, positive}
+use Rattle.lexical_write_float_spec.specs.Text.{point, least, trim, scientific, negative, positive}
 use Rattle.lexical_write_float.specs.Code.{signText, fractionText, planText, tailText, IsPlan}
 use Rattle.lexical_write_float.proofs.PowerLaws.{tail-length}
 

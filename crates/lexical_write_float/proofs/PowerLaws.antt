@@ -7,15 +7,15 @@ use lib.IntN.{ℤ, pos, negsuc}
 use lib.ListN.{length, length-append}
 use Rattle.lexical_util.specs.Digit.{isRadix}
 use Rattle.lexical_util.specs.Exponent.{isNegative, power}
-use Rattle.lexical_digits.specs.Digits.{numeral}
-use Rattle.lexical_digits.specs.Write.{digitCount}
-use Rattle.lexical_digits.proofs.DigitsLaws.{length-numeral}
+use Rattle.lexical_write_integer_spec.specs.Digits.{numeral}
+use Rattle.lexical_write_integer_spec.specs.Write.{digitCount}
+use Rattle.lexical_write_integer_spec.proofs.DigitsLaws.{length-numeral}
 use Rattle.lexical_format.specs.declared.format.Pair.{Pair}
 use Rattle.lexical_format.specs.declared.format.NumberFormat.{NumberFormat}
 use Rattle.lexical_format.specs.declared.options.Options.{Options}
-use Rattle.lexical_text.specs.declared.layout.Layout.{Layout}
-use Rattle.lexical_text.specs.declared.layout.Layout.the-variants.{Scientific}
-use Rattle.lexical_text.specs.Text.{exponentText}
+use Rattle.lexical_write_float_spec.specs.declared.layout.Layout.{Layout}
+use Rattle.lexical_write_float_spec.specs.declared.layout.Layout.the-variants.{Scientific}
+use Rattle.lexical_write_float_spec.specs.Text.{exponentText}
 use Rattle.lexical_write_float.specs.Code.{signText, powerText, tailText}
 
 pub count-is : (radix n : ℕ) → isRadix radix ≡ true → digitCount n radix ≡ length (numeral radix n)

@@ -10,10 +10,10 @@ use lib.Ieee.{size}
 use lib.Ieee.Digits.{size-le}
 use Rattle.lexical_util.specs.Exponent.{clamped, scale}
 use Rattle.lexical_util.proofs.ExponentLaws.{clamped-is}
-use Rattle.lexical_text.specs.Range.{Between}
+use Rattle.lexical_write_float_spec.specs.Range.{Between}
 use Rattle.lexical_write_integer.proofs.FillLaws.{shifted, masked}
 use lib.Pow.{pow-lt, pow-pos}
-use Rattle.lexical_text.proofs.Integers.{between-more, between-wider}
+use Rattle.lexical_write_float_spec.proofs.Integers.{between-more, between-wider}
 
 -- ---- an exponent that is not far from 0, and some bits higher, is within what 32 bits hold
 near-few : (least most : ℕ) (e : ℤ) → least ≤ 20000 → most ≤ 20000 → Between least most e → mag e < 2147483648

@@ -9,17 +9,17 @@ use lib.IntN.{ℤ, natAbs}
 use lib.Pow.{pow-mono, shl-lt}
 use Rattle.lexical_util.specs.Digit.{isRadix}
 use Rattle.lexical_util.specs.Exponent.{scale, place, isNegative, power}
-use Rattle.lexical_digits.proofs.DigitsLaws.{length-numeral, count-pos, radix-above}
+use Rattle.lexical_write_integer_spec.proofs.DigitsLaws.{length-numeral, count-pos, radix-above}
 use Rattle.lexical_format.specs.declared.checks.CheckedFormat.{CheckedFormat}
 use Rattle.lexical_format.specs.declared.format.NumberFormat.{NumberFormat}
 use Rattle.lexical_format.specs.declared.options.Options.{Options}
 use Rattle.lexical_format.specs.Format.{lowBreak, highBreak, settled}
 use Rattle.lexical_format.proofs.FormatLaws.{writable}
-use Rattle.lexical_text.specs.declared.layout.Layout.{Layout}
-use Rattle.lexical_text.specs.declared.layout.Layout.the-variants.{Scientific, Negative, Positive}
+use Rattle.lexical_write_float_spec.specs.declared.layout.Layout.{Layout}
+use Rattle.lexical_write_float_spec.specs.declared.layout.Layout.the-variants.{Scientific, Negative, Positive}
 use Rattle.lexical_write_float.specs.declared.plan.Digits.{Digits}
-use Rattle.lexical_text.specs.Value.{exactDigits}
-use Rattle.lexical_text.specs.Text.{least, scientific, negative, positive, layoutOf, digitsSoFar, laidOut, text}
+use Rattle.lexical_write_float_spec.specs.Value.{exactDigits}
+use Rattle.lexical_write_float_spec.specs.Text.{least, scientific, negative, positive, layoutOf, digitsSoFar, laidOut, text}
 use Rattle.lexical_write_float.specs.Code.{Passed, rowOf, Counted, bodyText, tailText}
 use Rattle.lexical_write_float.proofs.PowerLaws.{power-is}
 

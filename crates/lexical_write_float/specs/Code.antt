@@ -12,21 +12,21 @@ use Rattle.lexical_util.specs.Exponent.{place}
 use Rattle.lexical_util.specs.declared.exponent.Magnitude.{Magnitude}
 use Rattle.lexical_float.specs.declared.num.Parts.{Parts}
 use Rattle.lexical_float.specs.declared.num.Parts.the-variants as parts
-use Rattle.lexical_digits.specs.Digits.{numeral}
+use Rattle.lexical_write_integer_spec.specs.Digits.{numeral}
 use Rattle.lexical_format.specs.declared.checks.CheckedFormat.{CheckedFormat}
 use Rattle.lexical_format.specs.declared.format.Pair.{Pair}
 use Rattle.lexical_format.specs.declared.format.NumberFormat.{NumberFormat}
 use Rattle.lexical_format.specs.declared.options.Options.{Options}
 use Rattle.lexical_format.specs.Format.{pair, writingFormat, settled, checkedFormat}
-use Rattle.lexical_text.specs.declared.layout.Layout.{Layout}
-use Rattle.lexical_text.specs.declared.layout.Layout.the-variants.{Scientific, Negative, Positive}
+use Rattle.lexical_write_float_spec.specs.declared.layout.Layout.{Layout}
+use Rattle.lexical_write_float_spec.specs.declared.layout.Layout.the-variants.{Scientific, Negative, Positive}
 use Rattle.lexical_write_float.specs.declared.plan.Digits.{Digits}
 use Rattle.lexical_write_float.specs.declared.plan.Plan.{Plan}
 use Rattle.lexical_write_float.specs.declared.write.Placed.{Placed}
-use Rattle.lexical_text.specs.Value.{Value, normal, exactDigits}
-use Rattle.lexical_text.specs.Range.{Between}
-use Rattle.lexical_text.specs.Text.{zeros, scientific, negative, positive}
-use Rattle.lexical_text.specs.Write.{limitedText}
+use Rattle.lexical_write_float_spec.specs.Value.{Value, normal, exactDigits}
+use Rattle.lexical_write_float_spec.specs.Range.{Between}
+use Rattle.lexical_write_float_spec.specs.Text.{zeros, scientific, negative, positive}
+use Rattle.lexical_write_float_spec.specs.Write.{limitedText}
 
 -- ---- values
 -- the value that a magnitude stands for

@@ -2,14 +2,14 @@
 ghost use mathlib.Core.Path.{_≡_};
 ghost use Prim.Native.Nat.{ℕ, _+_, _-_, _*_, _^_, _≤_, _<_};
 ghost use Rattle.lexical_util.specs.Exponent.{modulo};
-ghost use Rattle.lexical_text.specs.Value.{normal};
-ghost use Rattle.lexical_text.specs.Limit.{rounded, limited};
-ghost use Rattle.lexical_text.specs.Range.{Between};
+ghost use Rattle.lexical_write_float_spec.specs.Value.{normal};
+ghost use Rattle.lexical_write_float_spec.specs.Limit.{rounded, limited};
+ghost use Rattle.lexical_write_float_spec.specs.Range.{Between};
 ghost use Rattle.lexical_write_float.specs.Code.{ofMagnitude, IsPlan};
 ghost use mathlib.Core.List.{List};
 ghost use lib.IntN.{natAbs};
 ghost use Rattle.lexical_format.specs.declared.format.NumberFormat.{NumberFormat};
-ghost use Rattle.lexical_text.specs.Text.{point, negative, positive};
+ghost use Rattle.lexical_write_float_spec.specs.Text.{point, negative, positive};
 use crate::plan::Plan;
 use crate::shared::missing_digits;
 use lexical_format::Options;

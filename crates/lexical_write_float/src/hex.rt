@@ -2,7 +2,7 @@
 ghost use mathlib.Core.Path.{_≡_};
 ghost use mathlib.Core.Bool.{not, _&&_};
 ghost use Prim.Native.Nat.{_≤_, _<_};
-ghost use Rattle.lexical_text.specs.Text.{point, least, trim, scientific};
+ghost use Rattle.lexical_write_float_spec.specs.Text.{point, least, trim, scientific};
 ghost use Rattle.lexical_write_float.specs.Code.{IsPlan};
 use crate::plan::Plan;
 use crate::shared::missing_digits;

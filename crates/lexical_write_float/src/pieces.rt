@@ -5,9 +5,9 @@ ghost use mathlib.Core.List.{[], _∷_};
 ghost use Prim.Native.Nat.{_+_, _^_, _≤_, _<_};
 ghost use lib.ListN.{length};
 ghost use Rattle.lexical_util.specs.Digit.{isRadix};
-ghost use Rattle.lexical_digits.specs.Digits.{numeral};
-ghost use Rattle.lexical_digits.specs.Write.{lastNumeral};
-ghost use Rattle.lexical_text.specs.Text.{zeros};
+ghost use Rattle.lexical_write_integer_spec.specs.Digits.{numeral};
+ghost use Rattle.lexical_write_integer_spec.specs.Write.{lastNumeral};
+ghost use Rattle.lexical_write_float_spec.specs.Text.{zeros};
 ghost use Rattle.lexical_write_float.specs.Code.{Puts};
 use lexical_util::Written;
 

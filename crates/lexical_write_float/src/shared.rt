@@ -4,7 +4,7 @@ ghost use mathlib.Core.Bool.{true};
 ghost use Prim.Native.Nat.{ℕ, _+_, _-_, _≤_, _<_};
 ghost use lib.ListN.{length};
 ghost use Rattle.lexical_util.specs.Digit.{isRadix};
-ghost use Rattle.lexical_text.specs.Text.{isScientific, layoutOf};
+ghost use Rattle.lexical_write_float_spec.specs.Text.{isScientific, layoutOf};
 ghost use Rattle.lexical_format.specs.declared.options.Options.{Options};
 ghost use Rattle.lexical_format.specs.Format.{lowBreak, highBreak};
 ghost use Rattle.lexical_write_float.specs.Code.{Puts, signText, tailText};
@@ -12,10 +12,10 @@ use crate::pieces::put_byte;
 use crate::pieces::put_number;
 use lexical_format::CheckedFormat;
 use lexical_format::NumberFormat;
-use lexical_text::Layout;
 use lexical_util::BaseExponent;
 use lexical_util::BitExponent;
 use lexical_util::is_below;
+use lexical_write_float_spec::Layout;
 
 // How many zeros fill `count` digits up to the least count.
 pub(crate) fn missing_digits(least: u32, count: usize) -> usize

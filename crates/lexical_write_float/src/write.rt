@@ -7,11 +7,11 @@ ghost use lib.ListN.{length};
 ghost use Rattle.lexical_util.specs.Answer.{done, written, held, ofWritten};
 ghost use Rattle.lexical_format.specs.declared.format.NumberFormat.{NumberFormat};
 ghost use Rattle.lexical_format.specs.declared.options.Options.{Options};
-ghost use Rattle.lexical_text.specs.Value.{exactDigits};
-ghost use Rattle.lexical_text.specs.Text.{point, least, digitsSoFar, text};
-ghost use Rattle.lexical_text.specs.Range.{Ranged};
+ghost use Rattle.lexical_write_float_spec.specs.Value.{exactDigits};
+ghost use Rattle.lexical_write_float_spec.specs.Text.{point, least, digitsSoFar, text};
+ghost use Rattle.lexical_write_float_spec.specs.Range.{Ranged};
 ghost use Rattle.lexical_write_float.specs.Code.{FloatParts, Passed, rowOf, Counted, digitsOf, IsPlaced, IsPlan, bodyText, magnitudeText, partsText, askedByParts, OfFloat};
-ghost use Rattle.lexical_text.specs.Write.{writeText, NoLonger, NeverRefused};
+ghost use Rattle.lexical_write_float_spec.specs.Write.{writeText, NoLonger, NeverRefused};
 use crate::binary::normalized;
 use crate::binary::truncate_and_round;
 use crate::binary::write_float_negative_exponent;
@@ -28,7 +28,6 @@ use lexical_format::CheckedFormat;
 use lexical_format::NumberFormat;
 use lexical_format::Options;
 use lexical_format::WritingCheck;
-use lexical_text::Layout;
 use lexical_util::BitExponent;
 use lexical_util::DigitExponent;
 use lexical_util::Magnitude;
@@ -39,6 +38,7 @@ use lexical_util::calculate_shl;
 use lexical_util::digit_exponent;
 use lexical_util::places_before_point;
 use lexical_util::sci_exp;
+use lexical_write_float_spec::Layout;
 
 // D of a value: the mantissa is shifted up by e mod b, and what is left of e is a whole number of digits.
 fn digits_of(value: Magnitude, bits_per_digit: u32) -> Digits

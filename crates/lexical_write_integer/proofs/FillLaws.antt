@@ -11,7 +11,7 @@ use lib.ListN.{length, drop, set, length-set}
 use lib.Pow.{pow-lt, pow-pos, pow-mono}
 use lib.Seq.{drop-cons, getD-set-same, drop-set-lt}
 use Rattle.lexical_util.specs.Digit.{digitByte}
-use Rattle.lexical_digits.specs.Write.{lastNumeral}
+use Rattle.lexical_write_integer_spec.specs.Write.{lastNumeral}
 
 drop-set-here : (l : List ℕ) (j d : ℕ) → j < length l → drop j (set l j d) ≡ d ∷ drop (suc j) l
 drop-set-here l j d h =

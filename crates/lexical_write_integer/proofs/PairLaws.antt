@@ -5,7 +5,7 @@ use mathlib.Core.List.{List, _++_}
 use native.Mathlib.Omega.{arith}
 use lib.ListN.{length, getD, drop, set, length-set}
 use Rattle.lexical_util.specs.Digit.{digitByte}
-use Rattle.lexical_digits.specs.Write.{lastNumeral}
+use Rattle.lexical_write_integer_spec.specs.Write.{lastNumeral}
 use Rattle.lexical_write_integer.specs.Table.{pairByte}
 use Rattle.lexical_write_integer.proofs.FillLaws.{back-step}
 

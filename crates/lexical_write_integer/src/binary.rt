@@ -3,7 +3,7 @@ ghost use mathlib.Core.Path.{_≡_};
 ghost use mathlib.Core.List.{_++_};
 ghost use Prim.Native.Nat.{_%_, _^_, _≤_, _<_};
 ghost use lib.ListN.{length, drop, getD};
-ghost use Rattle.lexical_digits.specs.Write.{lastNumeral};
+ghost use Rattle.lexical_write_integer_spec.specs.Write.{lastNumeral};
 use crate::radix::radix;
 
 // Entry i, four bytes, holds the last four digits of i.

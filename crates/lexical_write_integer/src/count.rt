@@ -2,7 +2,7 @@
 ghost use mathlib.Core.Path.{_≡_};
 ghost use Prim.Native.Nat.{_-_};
 ghost use lib.Ieee.{size};
-ghost use Rattle.lexical_digits.specs.Write.{digitCount, digitLog};
+ghost use Rattle.lexical_write_integer_spec.specs.Write.{digitCount, digitLog};
 use crate::decimal::decimal_count;
 use lexical_util::digit_bits;
 use lexical_util::quotient;

@@ -3,8 +3,8 @@ ghost use mathlib.Core.Path.{_≡_};
 ghost use mathlib.Core.List.{_++_};
 ghost use Prim.Native.Nat.{_≤_};
 ghost use lib.ListN.{length, drop};
-ghost use Rattle.lexical_digits.specs.Digits.{digits};
-ghost use Rattle.lexical_digits.specs.Write.{lastNumeral};
+ghost use Rattle.lexical_write_integer_spec.specs.Digits.{digits};
+ghost use Rattle.lexical_write_integer_spec.specs.Write.{lastNumeral};
 use crate::table::digit_to_char;
 
 // How many decimal digits value has.

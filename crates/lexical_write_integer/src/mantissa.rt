@@ -1,7 +1,7 @@
 // Derived from `write_mantissa` of lexical-write-integer/src/write.rs, changed: as many digits as the caller asks for, so that none is moved to make room for the point, the radix by its bits, and refusals.
 ghost use mathlib.Core.Path.{_≡_};
 ghost use Rattle.lexical_util.specs.Answer.{written, held, ofWritten};
-ghost use Rattle.lexical_digits.specs.Write.{mantissaText};
+ghost use Rattle.lexical_write_integer_spec.specs.Write.{mantissaText};
 use crate::binary::radix_by_bits;
 use lexical_util::Refusal;
 use lexical_util::Written;

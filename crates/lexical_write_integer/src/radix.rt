@@ -3,7 +3,7 @@ ghost use mathlib.Core.Path.{_≡_};
 ghost use mathlib.Core.List.{_++_};
 ghost use Prim.Native.Nat.{_%_, _^_, _≤_};
 ghost use lib.ListN.{length, drop};
-ghost use Rattle.lexical_digits.specs.Write.{lastNumeral};
+ghost use Rattle.lexical_write_integer_spec.specs.Write.{lastNumeral};
 use crate::table::DIGIT_TO_BASE32_SQUARED;
 use crate::table::DIGIT_TO_CHAR;
 use crate::table::lent_char;

@@ -6,7 +6,7 @@ ghost use Prim.Native.Nat.{_≤_};
 ghost use lib.ListN.{length, drop};
 ghost use Rattle.lexical_util.specs.Answer.{written, held, ofWritten};
 ghost use Rattle.lexical_util.specs.Digit.{isRadix};
-ghost use Rattle.lexical_digits.specs.Write.{lastNumeral, digitsText};
+ghost use Rattle.lexical_write_integer_spec.specs.Write.{lastNumeral, digitsText};
 use crate::binary::radix_by_bits;
 use crate::count::digit_count;
 use crate::decimal::decimal;

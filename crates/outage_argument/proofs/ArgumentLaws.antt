@@ -11,9 +11,9 @@ use Rattle.lexical_format.specs.declared.checks.CheckedFormat.{CheckedFormat}
 use Rattle.lexical_format.specs.declared.format.Pair.{Pair}
 use Rattle.lexical_format.specs.Format.{settled, writingFormat, checkedFormat}
 use Rattle.lexical_util.proofs.AnswerLaws.{refused-done}
-use Rattle.lexical_rewriting.specs.declared.text_format.TextFormat.{TextFormat}
-use Rattle.outage.specs.Sheet.{before, numberIn}
-use Rattle.outage.proofs.BeforeLaws.{before-take}
+use Rattle.lexical_rewrite_spec.specs.declared.text_format.TextFormat.{TextFormat}
+use Rattle.outage_spec.specs.Sheet.{before, numberIn}
+use Rattle.outage_spec.proofs.BeforeLaws.{before-take}
 use Rattle.outage_argument.specs.Argument.{ifAdmitted, admitted, ofNumbers, formatNamed}
 
 -- ---- what the format's check tells

@@ -6,9 +6,9 @@ use lib.ListN.{length, drop}
 use Rattle.lexical_util.specs.Answer.{Answer, done, refused}
 use Rattle.lexical_format.specs.declared.format.Pair.{Pair}
 use Rattle.lexical_format.specs.Format.{writingFormat}
-use Rattle.lexical_rewriting.specs.declared.text_format.TextFormat.{TextFormat}
-use Rattle.outage.specs.Sheet.{before, numberIn}
-use Rattle.outage.specs.Format.{sheetIn}
+use Rattle.lexical_rewrite_spec.specs.declared.text_format.TextFormat.{TextFormat}
+use Rattle.outage_spec.specs.Sheet.{before, numberIn}
+use Rattle.outage_spec.specs.Format.{sheetIn}
 use Rattle.outage_argument.specs.declared.argument.Argument.{Argument}
 use Rattle.outage_argument.specs.declared.argument.Argument.the-variants.{Format, Unknown}
 

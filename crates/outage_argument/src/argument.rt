@@ -1,13 +1,13 @@
 // A format as a program's argument: RADIX/BASE/EXPONENT-RADIX.
 ghost use mathlib.Core.Path.{_≡_};
-ghost use Rattle.outage.specs.Format.{sheetIn};
+ghost use Rattle.outage_spec.specs.Format.{sheetIn};
 ghost use Rattle.outage_argument.specs.Argument.{admitted, ofNumbers, formatNamed, ofArgument};
 ghost use Rattle.outage_line.specs.Number.{ofNumber};
 use lexical_format::NumberFormat;
 use lexical_format::Options;
 use lexical_format::RoundMode;
 use lexical_format::WritingCheck;
-use lexical_rewriting::TextFormat;
+use lexical_rewrite_spec::TextFormat;
 use outage_line::Number;
 use outage_line::find;
 use outage_line::read_number;

@@ -11,19 +11,19 @@ use lib.ListN.{length, take, drop, length-append}
 use lib.Seq.{take-append-seam}
 use Rattle.lexical_util.specs.Answer.{Answer, done, refused, andThen, written, held}
 use Rattle.lexical_util.proofs.AnswerLaws.{refused-done, done-same, text-fits}
-use Rattle.lexical_digits.specs.Digits.{numeral}
-use Rattle.lexical_digits.proofs.DigitsLaws.{length-numeral, count-le}
+use Rattle.lexical_write_integer_spec.specs.Digits.{numeral}
+use Rattle.lexical_write_integer_spec.proofs.DigitsLaws.{length-numeral, count-le}
 use Rattle.lexical_format.specs.declared.format.Pair.{Pair}
 use Rattle.lexical_write_float.specs.Code.{Puts}
 use Rattle.lexical_write_float.proofs.PutLaws.{put-front}
-use Rattle.lexical_rewriting.specs.declared.text_format.TextFormat.{TextFormat}
-use Rattle.outage.specs.Table.{tableSize}
-use Rattle.outage.specs.Calls.{sheetFormat, tableSheet, sheetTable}
-use Rattle.outage.proofs.AgainLaws.{sheet-again}
-use Rattle.outage.proofs.LengthLaws.{sheet-short}
-use Rattle.outage.proofs.RoomLaws.{room-enough}
-use Rattle.outage.proofs.StoredLaws.{Stored, stored}
-use Rattle.outage.proofs.WayBackLaws.{table-again}
+use Rattle.lexical_rewrite_spec.specs.declared.text_format.TextFormat.{TextFormat}
+use Rattle.outage_spec.specs.Table.{tableSize}
+use Rattle.outage_spec.specs.Calls.{sheetFormat, tableSheet, sheetTable}
+use Rattle.outage_spec.proofs.AgainLaws.{sheet-again}
+use Rattle.outage_spec.proofs.LengthLaws.{sheet-short}
+use Rattle.outage_spec.proofs.RoomLaws.{room-enough}
+use Rattle.outage_spec.proofs.StoredLaws.{Stored, stored}
+use Rattle.outage_spec.proofs.WayBackLaws.{table-again}
 use Rattle.outage_console.specs.Screen.{refusalLine, screen, reading, rewriting, shown, SameRows}
 use Rattle.outage_console.specs.Code.{putCount, putBytes}
 

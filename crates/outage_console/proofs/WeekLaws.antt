@@ -3,13 +3,13 @@ use Prim.Native.Nat.{ℕ}
 use mathlib.Core.Path.{refl, sym, _∙_}
 use mathlib.Core.List.{List, [], _∷_}
 use native.Mathlib.Omega.{arith}
-use Rattle.lexical_rewriting.specs.declared.text_format.TextFormat.{TextFormat}
-use Rattle.outage.specs.Table.{tableSize}
-use Rattle.outage.specs.Format.{printed}
-use Rattle.outage.proofs.LengthLaws.{sheet-short}
-use Rattle.outage.proofs.TableLaws.{header}
-use Rattle.outage.proofs.WayBackLaws.{printed as printed-table, table-again}
-use Rattle.outage.proofs.WordLaws.{AreBytes}
+use Rattle.lexical_rewrite_spec.specs.declared.text_format.TextFormat.{TextFormat}
+use Rattle.outage_spec.specs.Table.{tableSize}
+use Rattle.outage_spec.specs.Format.{printed}
+use Rattle.outage_spec.proofs.LengthLaws.{sheet-short}
+use Rattle.outage_spec.proofs.TableLaws.{header}
+use Rattle.outage_spec.proofs.WayBackLaws.{printed as printed-table, table-again}
+use Rattle.outage_spec.proofs.WordLaws.{AreBytes}
 use Rattle.outage_console.specs.Week.{stations, SheetReturns, TableReturns}
 use Rattle.outage_console.proofs.ScreenLaws.{reading-short, rewriting-again, same-rows}
 

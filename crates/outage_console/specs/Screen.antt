@@ -6,11 +6,11 @@ use mathlib.Core.List.{List, [], _∷_, _++_}
 use lib.Dec.{ltb}
 use lib.ListN.{length, drop}
 use Rattle.lexical_util.specs.Answer.{Answer, done, refused, andThen}
-use Rattle.lexical_digits.specs.Digits.{numeral}
-use Rattle.lexical_rewriting.specs.declared.text_format.TextFormat.{TextFormat}
-use Rattle.outage.specs.Table.{tableSize}
-use Rattle.outage.specs.Format.{printed}
-use Rattle.outage.specs.Calls.{tableSheet, sheetTable}
+use Rattle.lexical_write_integer_spec.specs.Digits.{numeral}
+use Rattle.lexical_rewrite_spec.specs.declared.text_format.TextFormat.{TextFormat}
+use Rattle.outage_spec.specs.Table.{tableSize}
+use Rattle.outage_spec.specs.Format.{printed}
+use Rattle.outage_spec.specs.Calls.{tableSheet, sheetTable}
 
 -- "refused N at P" and LF, with number and place in radix 10
 unfoldable pub refusalLine : ℕ → ℕ → List ℕ

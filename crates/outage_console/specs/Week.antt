@@ -5,10 +5,10 @@ use mathlib.Core.List.{List, [], _∷_}
 use Rattle.lexical_util.specs.Answer.{Answer, done, andThen}
 use Rattle.lexical_util.specs.Digit.{All}
 use Rattle.lexical_format.specs.declared.format.Pair.{Pair}
-use Rattle.lexical_rewriting.specs.declared.text_format.TextFormat.{TextFormat}
-use Rattle.lexical_rewriting.specs.Chain.{lastFormat}
-use Rattle.outage.specs.Format.{printed}
-use Rattle.outage.specs.Calls.{sheetFormat}
+use Rattle.lexical_rewrite_spec.specs.declared.text_format.TextFormat.{TextFormat}
+use Rattle.lexical_rewrite_spec.specs.Chain.{lastFormat}
+use Rattle.outage_spec.specs.Format.{printed}
+use Rattle.outage_spec.specs.Calls.{sheetFormat}
 use Rattle.outage_console.specs.Screen.{printing, reading, rewriting}
 
 -- a format that table to sheet takes: refusals 1 to 6 refuse nothing, and it has no digit limit

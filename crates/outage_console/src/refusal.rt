@@ -1,7 +1,7 @@
 // A refusal as a line.
 ghost use Prim.Native.Nat.{_+_, _≤_, _<_};
 ghost use lib.ListN.{length};
-ghost use Rattle.lexical_digits.specs.Digits.{numeral};
+ghost use Rattle.lexical_write_integer_spec.specs.Digits.{numeral};
 ghost use Rattle.lexical_write_float.specs.Code.{Puts};
 ghost use Rattle.outage_console.specs.Screen.{refusalLine};
 use lexical_util::Refusal;

@@ -7,7 +7,7 @@ ghost use Rattle.outage_console.specs.Screen.{printing, reading, rewriti
 ghost use Rattle.outage_console.specs.Code.{putCount, putBytes};
 ghost use Rattle.outage_console.specs.Week.{SheetReturns, TableReturns};
 use crate::refusal::put_refusal;
-use lexical_rewriting::TextFormat;
+use lexical_rewrite_spec::TextFormat;
 use lexical_util::Refusal;
 use lexical_util::Written;
 use outage_argument::sheet_in;

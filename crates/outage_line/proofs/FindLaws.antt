@@ -5,7 +5,7 @@ use mathlib.Core.List.{List}
 use borrow.Author.Tests.{eq-eqb, ne-eqb}
 use lib.ListN.{length, drop, getD, drop-of-length-le}
 use lib.Seq.{drop-cons}
-use Rattle.outage.specs.Sheet.{before}
+use Rattle.outage_spec.specs.Sheet.{before}
 
 module _ (b : ℕ) (l : List ℕ) (i : ℕ) where
   pub before-more : i < length l → (getD l i 0 ≡ b → ⊥) → length (before b (drop i l)) ≡ suc (length (before b (drop (suc i) l)))

@@ -11,7 +11,7 @@ use lib.Seq.{drop-cons}
 use Rattle.lexical_util.specs.Digit.{digitIn}
 use Rattle.lexical_reader.specs.Place.{digitAt, placeAfter}
 use Rattle.lexical_reader.proofs.PlaceLaws.{digit-here, place-here}
-use Rattle.outage.specs.Sheet.{numberOn, numberIn}
+use Rattle.outage_spec.specs.Sheet.{numberOn, numberIn}
 
 -- ---- the digits of l from the place i on, behind those that spell a
 module _ (limit a : ℕ) (l : List ℕ) (i : ℕ) where

@@ -2,7 +2,7 @@
 ghost use mathlib.Core.Path.{_≡_};
 ghost use Prim.Native.Nat.{_≤_};
 ghost use lib.ListN.{length};
-ghost use Rattle.outage.specs.Sheet.{before, numberOn, numberIn};
+ghost use Rattle.outage_spec.specs.Sheet.{before, numberOn, numberIn};
 ghost use Rattle.outage_line.specs.Number.{ofNumber};
 use lexical_reader::next_digit;
 use lexical_util::DigitValue;

@@ -10,11 +10,11 @@ use Rattle.lexical_util.specs.Answer.{Answer, done, refused, andThen, written, 
 use Rattle.lexical_util.proofs.AnswerLaws.{refused-done, done-same, text-fits}
 use Rattle.lexical_write_float.specs.Code.{put}
 use Rattle.lexical_write_float.proofs.PutLaws.{put-nil, put-front}
-use Rattle.outage.specs.declared.window.Window.{Window}
-use Rattle.outage.specs.Words.{toBytes}
-use Rattle.outage.specs.Table.{tableSize, columnBytes, tableOf}
-use Rattle.outage.proofs.StoredLaws.{Counted, column-length, table-length}
-use Rattle.outage.proofs.WordLaws.{bytes-length}
+use Rattle.outage_spec.specs.declared.window.Window.{Window}
+use Rattle.outage_spec.specs.Words.{toBytes}
+use Rattle.outage_spec.specs.Table.{tableSize, columnBytes, tableOf}
+use Rattle.outage_spec.proofs.StoredLaws.{Counted, column-length, table-length}
+use Rattle.outage_spec.proofs.WordLaws.{bytes-length}
 use Rattle.outage_sheet.specs.Fill.{putHeader, putWindow, fill, Filled}
 use Rattle.outage_sheet.proofs.StoreLaws.{put-more, put-behind, put-length, put-swap}
 

@@ -9,9 +9,9 @@ use lib.Seq.{drop-cons, drop-drop}
 use Rattle.lexical_util.specs.Answer.{done, refused}
 use Rattle.lexical_format.specs.declared.format.NumberFormat.{NumberFormat}
 use Rattle.lexical_format.specs.declared.options.Options.{Options}
-use Rattle.outage.specs.declared.window.Window.{Window}
-use Rattle.outage.specs.Table.{tableSize}
-use Rattle.outage.specs.Sheet.{before, fieldsWindow, lineWindow, rowIn, linesFrom}
+use Rattle.outage_spec.specs.declared.window.Window.{Window}
+use Rattle.outage_spec.specs.Table.{tableSize}
+use Rattle.outage_spec.specs.Sheet.{before, fieldsWindow, lineWindow, rowIn, linesFrom}
 use Rattle.outage_sheet.specs.Fill.{putWindow, Filled}
 use Rattle.outage_sheet.proofs.FillLaws.{sizeOf, withRow, size-more, fill-more, fill-end}
 

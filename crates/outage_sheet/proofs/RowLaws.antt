@@ -17,15 +17,15 @@ use Rattle.lexical_format.specs.declared.format.NumberFormat.{NumberFormat}
 use Rattle.lexical_format.specs.declared.options.Options.{Options}
 use Rattle.lexical_format.specs.Format.{readingChecks, pairOf, checkedPair, readingFormat}
 use Rattle.lexical_float.proofs.PartsLaws.{value-no-nan}
-use Rattle.lexical_reading.specs.Shape.{Tail, absent, exponent, Shape, Grammar}
-use Rattle.lexical_reading.specs.Parse.{Parsed, found, stuck, parse, ofParsed, shapeOf}
-use Rattle.lexical_reading.specs.Round.{tooLarge}
-use Rattle.lexical_reading.specs.Read.{grammarOf, numerator, denominator, floatOf, exponentTooLarge, exponentPlace, valueOf, readText, readFloat}
-use Rattle.lexical_reading.proofs.ReadLaws.{read-is-nearest}
-use Rattle.outage.specs.declared.window.Window.{Window}
-use Rattle.outage.specs.Window.{windowChecks, judged, from}
-use Rattle.outage.specs.Sheet.{before, lacks, fieldsWindow, lineWindow, rowIn}
-use Rattle.outage.proofs.BeforeLaws.{before-le, before-take}
+use Rattle.lexical_read_float_spec.specs.Shape.{Tail, absent, exponent, Shape, Grammar}
+use Rattle.lexical_read_float_spec.specs.Parse.{Parsed, found, stuck, parse, ofParsed, shapeOf}
+use Rattle.lexical_read_float_spec.specs.Round.{tooLarge}
+use Rattle.lexical_read_float_spec.specs.Read.{grammarOf, numerator, denominator, floatOf, exponentTooLarge, exponentPlace, valueOf, readText, readFloat}
+use Rattle.lexical_read_float_spec.proofs.ReadLaws.{read-is-nearest}
+use Rattle.outage_spec.specs.declared.window.Window.{Window}
+use Rattle.outage_spec.specs.Window.{windowChecks, judged, from}
+use Rattle.outage_spec.specs.Sheet.{before, lacks, fieldsWindow, lineWindow, rowIn}
+use Rattle.outage_spec.proofs.BeforeLaws.{before-le, before-take}
 use Rattle.outage_sheet.specs.Fill.{Stored}
 
 -- ---- an answer whose place is at most n, and of what is answered P is known

@@ -10,10 +10,10 @@ use Rattle.lexical_format.specs.declared.format.Pair.{Pair}
 use Rattle.lexical_format.specs.declared.format.NumberFormat.{NumberFormat}
 use Rattle.lexical_format.specs.declared.options.Options.{Options}
 use Rattle.lexical_format.specs.Format.{readingFormat}
-use Rattle.outage.specs.Table.{tableSize}
-use Rattle.outage.specs.Sheet.{before, numberIn, orWrong, sheetCount, linesFrom}
-use Rattle.outage.specs.Calls.{countedTable, sheetTable}
-use Rattle.outage.proofs.BeforeLaws.{before-take}
+use Rattle.outage_spec.specs.Table.{tableSize}
+use Rattle.outage_spec.specs.Sheet.{before, numberIn, orWrong, sheetCount, linesFrom}
+use Rattle.outage_spec.specs.Calls.{countedTable, sheetTable}
+use Rattle.outage_spec.proofs.BeforeLaws.{before-take}
 use Rattle.outage_sheet.proofs.FillLaws.{tableFrom}
 
 -- ---- the count line, whose LF the code found at m

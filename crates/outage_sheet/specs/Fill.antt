@@ -8,9 +8,9 @@ use lib.ListN.{length}
 use lib.Ieee.{binary64, toBits, isNan}
 use Rattle.lexical_util.specs.Answer.{Answer, done, refused}
 use Rattle.lexical_write_float.specs.Code.{put}
-use Rattle.outage.specs.declared.window.Window.{Window}
-use Rattle.outage.specs.Words.{toBytes}
-use Rattle.outage.specs.Table.{tableSize}
+use Rattle.outage_spec.specs.declared.window.Window.{Window}
+use Rattle.outage_spec.specs.Words.{toBytes}
+use Rattle.outage_spec.specs.Table.{tableSize}
 
 -- its floats have bits
 abbrev pub Stored : Window → Type 0

@@ -4,10 +4,10 @@ ghost use mathlib.Core.List.{_++_};
 ghost use Prim.Native.Nat.{_+_, _≤_, _<_};
 ghost use lib.ListN.{length, drop};
 ghost use Rattle.lexical_write_float.specs.Code.{put};
-ghost use Rattle.outage.specs.Words.{toBytes};
-ghost use Rattle.outage.specs.Table.{tableSize};
+ghost use Rattle.outage_spec.specs.Words.{toBytes};
+ghost use Rattle.outage_spec.specs.Table.{tableSize};
 ghost use Rattle.outage_sheet.specs.Fill.{Stored, putWindow, putHeader};
-use outage::Window;
+use outage_spec::Window;
 
 // The lowest bytes of a number, so many of them, from a place on.
 fn put_word(table: &mut [u8], at: usize, value: u64, size: usize)

@@ -4,9 +4,9 @@ ghost use mathlib.Core.Option.{none};
 ghost use Prim.Native.Nat.{_≤_};
 ghost use lib.ListN.{length, drop};
 ghost use Rattle.lexical_util.specs.Answer.{done, andThen, written, held, ofWritten};
-ghost use Rattle.outage.specs.Table.{tableSize, tableOf};
-ghost use Rattle.outage.specs.Sheet.{linesFrom};
-ghost use Rattle.outage.specs.Calls.{countedTable, sheetTable};
+ghost use Rattle.outage_spec.specs.Table.{tableSize, tableOf};
+ghost use Rattle.outage_spec.specs.Sheet.{linesFrom};
+ghost use Rattle.outage_spec.specs.Calls.{countedTable, sheetTable};
 ghost use Rattle.outage_sheet.specs.Fill.{Filled};
 use crate::row::row_in;
 use crate::store::copy;
@@ -18,10 +18,10 @@ use lexical_format::ReadingCheck;
 use lexical_format::check_reading;
 use lexical_util::Refusal;
 use lexical_util::Written;
-use outage::CheckedWindow;
 use outage_line::Number;
 use outage_line::find;
 use outage_line::read_number;
+use outage_spec::CheckedWindow;
 
 // The rows from a place on, n of them, into a table whose header stands; last 15 for extra bytes.
 fn read_rows(

@@ -8,7 +8,7 @@ use Rattle.lexical_util.specs.Answer.{done, andThen}
 use Rattle.lexical_format.specs.declared.format.NumberFormat.{NumberFormat}
 use Rattle.lexical_format.specs.declared.options.Options.{Options}
 use Rattle.lexical_format.specs.Format.{badBytes, badCounts, badBreaks, given, settled, writingFormat, checkedFormat}
-use Rattle.outage.specs.Calls.{sheetFormat}
+use Rattle.outage_spec.specs.Calls.{sheetFormat}
 
 -- ---- options that differ in the digit limit
 abbrev pub limitedTo : ℕ → Options → Options

@@ -12,10 +12,10 @@ use Rattle.lexical_format.specs.declared.format.NumberFormat.{NumberFormat}
 use Rattle.lexical_format.specs.declared.options.Options.{Options}
 use Rattle.lexical_write_float.specs.Code.{Puts}
 use Rattle.lexical_write_float.proofs.PutLaws.{puts-none, puts-more}
-use Rattle.outage.specs.declared.window.Window.{Window}
-use Rattle.outage.specs.Table.{rowAt, rowsFrom}
-use Rattle.outage.proofs.FormatLaws.{taken}
-use Rattle.outage.proofs.TableLaws.{row-passes}
+use Rattle.outage_spec.specs.declared.window.Window.{Window}
+use Rattle.outage_spec.specs.Table.{rowAt, rowsFrom}
+use Rattle.outage_spec.proofs.FormatLaws.{taken}
+use Rattle.outage_spec.proofs.TableLaws.{row-passes}
 use Rattle.outage_table.specs.declared.table.Rows.{Rows as Checked}
 use Rattle.outage_table.specs.declared.table.Rows.the-variants.{Passed, Refused}
 use Rattle.outage_table.specs.Count.{AreRows}

@@ -9,10 +9,10 @@ use lib.Dec.{leb}
 use lib.ListN.{length, drop, length-append}
 use Rattle.lexical_util.specs.Answer.{Answer, done, refused, andThen, written, held}
 use Rattle.lexical_util.proofs.AnswerLaws.{refused-done, done-same, text-fits, text-short}
-use Rattle.lexical_digits.specs.Digits.{numeral}
-use Rattle.lexical_digits.specs.Write.{digitCount}
-use Rattle.lexical_digits.proofs.DigitsLaws.{count-le, length-numeral}
-use Rattle.lexical_digits.proofs.DigitsAnswer.{count-decimal}
+use Rattle.lexical_write_integer_spec.specs.Digits.{numeral}
+use Rattle.lexical_write_integer_spec.specs.Write.{digitCount}
+use Rattle.lexical_write_integer_spec.proofs.DigitsLaws.{count-le, length-numeral}
+use Rattle.lexical_write_integer_spec.proofs.DigitsAnswer.{count-decimal}
 use Rattle.lexical_format.specs.declared.checks.CheckedFormat.{CheckedFormat}
 use Rattle.lexical_format.specs.declared.format.NumberFormat.{NumberFormat}
 use Rattle.lexical_format.specs.declared.format.Pair.{Pair}
@@ -20,15 +20,15 @@ use Rattle.lexical_format.specs.declared.options.Options.{Options}
 use Rattle.lexical_format.specs.Format.{settled}
 use Rattle.lexical_write_float.specs.Code.{Puts}
 use Rattle.lexical_write_float.proofs.PutLaws.{puts-more, put-front}
-use Rattle.outage.specs.declared.window.Window.{Window}
-use Rattle.outage.specs.Table.{tableCount, rowsFrom, tableWindows}
-use Rattle.outage.specs.Sheet.{rowsText, sheetOf}
-use Rattle.outage.specs.Calls.{sheetFormat, tableSheet, LongestSheet, WayBack}
-use Rattle.outage.proofs.WordLaws.{AreBytes}
-use Rattle.outage.proofs.FormatLaws.{taken}
-use Rattle.outage.proofs.LengthLaws.{longest-sheet, rows-short}
-use Rattle.outage.proofs.TableLaws.{none-left, split, rows-count, rows-sound}
-use Rattle.outage.proofs.WayBackLaws.{way-back}
+use Rattle.outage_spec.specs.declared.window.Window.{Window}
+use Rattle.outage_spec.specs.Table.{tableCount, rowsFrom, tableWindows}
+use Rattle.outage_spec.specs.Sheet.{rowsText, sheetOf}
+use Rattle.outage_spec.specs.Calls.{sheetFormat, tableSheet, LongestSheet, WayBack}
+use Rattle.outage_spec.proofs.WordLaws.{AreBytes}
+use Rattle.outage_spec.proofs.FormatLaws.{taken}
+use Rattle.outage_spec.proofs.LengthLaws.{longest-sheet, rows-short}
+use Rattle.outage_spec.proofs.TableLaws.{none-left, split, rows-count, rows-sound}
+use Rattle.outage_spec.proofs.WayBackLaws.{way-back}
 use Rattle.outage_table.specs.Text.{found, rowOf, rowsOf, HasTexts, Admitted}
 use Rattle.outage_table.proofs.RowsLaws.{row-texts}
 

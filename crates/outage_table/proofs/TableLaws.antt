@@ -11,10 +11,10 @@ use lib.ListN.{length}
 use lib.Ieee.{binary64, ofBits, lt}
 use Rattle.lexical_util.specs.Answer.{Answer, done, refused}
 use Rattle.lexical_util.proofs.AnswerLaws.{refused-done}
-use Rattle.outage.specs.declared.window.Window.{Window}
-use Rattle.outage.specs.Words.{wordAt}
-use Rattle.outage.specs.Window.{isPlain, judged, from}
-use Rattle.outage.specs.Table.{tableSize, tableCount, rowAt}
+use Rattle.outage_spec.specs.declared.window.Window.{Window}
+use Rattle.outage_spec.specs.Words.{wordAt}
+use Rattle.outage_spec.specs.Window.{isPlain, judged, from}
+use Rattle.outage_spec.specs.Table.{tableSize, tableCount, rowAt}
 use Rattle.outage_table.proofs.PlainLaws.{below-plain, above-plain}
 
 -- ---- the header

@@ -13,13 +13,13 @@ use Rattle.lexical_format.specs.declared.format.NumberFormat.{NumberFormat}
 use Rattle.lexical_format.specs.declared.format.Pair.{Pair}
 use Rattle.lexical_format.specs.declared.options.Options.{Options}
 use Rattle.lexical_format.specs.Format.{writingFormat}
-use Rattle.lexical_text.specs.Write.{writeText}
-use Rattle.lexical_text.proofs.WriteLaws.{longest-text}
+use Rattle.lexical_write_float_spec.specs.Write.{writeText}
+use Rattle.lexical_write_float_spec.proofs.WriteLaws.{longest-text}
 use Rattle.lexical_write_float.specs.Code.{Puts}
 use Rattle.lexical_write_float.proofs.PutLaws.{puts-more}
-use Rattle.outage.specs.declared.window.Window.{Window}
-use Rattle.outage.specs.Window.{isPlain}
-use Rattle.outage.proofs.TextLaws.{plain-text}
+use Rattle.outage_spec.specs.declared.window.Window.{Window}
+use Rattle.outage_spec.specs.Window.{isPlain}
+use Rattle.outage_spec.proofs.TextLaws.{plain-text}
 use Rattle.outage_table.specs.Text.{textOf, rowOf, HasText}
 
 module _ (F : NumberFormat) (o : Options) where

@@ -7,7 +7,7 @@ use Rattle.outage_table.specs.declared.table.Count.{Count}
 use Rattle.outage_table.specs.declared.table.Count.the-variants.{Rows, Wrong}
 use Rattle.outage_table.specs.declared.table.Rows.{Rows as Checked}
 use Rattle.outage_table.specs.declared.table.Rows.the-variants.{Passed, Refused}
-use Rattle.outage.specs.declared.window.Window.{Window}
+use Rattle.outage_spec.specs.declared.window.Window.{Window}
 use Rattle.outage_table.specs.Text.{found}
 
 abbrev pub ofCount : Count → Answer ℕ

@@ -7,9 +7,9 @@ use Rattle.lexical_util.specs.Answer.{Answer, done, refused}
 use Rattle.lexical_format.specs.declared.format.NumberFormat.{NumberFormat}
 use Rattle.lexical_format.specs.declared.format.Pair.{Pair}
 use Rattle.lexical_format.specs.declared.options.Options.{Options}
-use Rattle.lexical_text.specs.Write.{writeText}
-use Rattle.outage.specs.declared.window.Window.{Window}
-use Rattle.outage.specs.Calls.{sheetFormat}
+use Rattle.lexical_write_float_spec.specs.Write.{writeText}
+use Rattle.outage_spec.specs.declared.window.Window.{Window}
+use Rattle.outage_spec.specs.Calls.{sheetFormat}
 
 -- what an answer has, and nothing where it is a refusal
 abbrev pub found : {A : Type 0} → Answer (List A) → List A

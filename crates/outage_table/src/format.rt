@@ -2,7 +2,7 @@
 ghost use mathlib.Core.Path.{_≡_};
 ghost use Rattle.lexical_util.specs.Answer.{done, andThen};
 ghost use Rattle.lexical_format.specs.Format.{settled, ofWritingCheck};
-ghost use Rattle.outage.specs.Calls.{sheetFormat};
+ghost use Rattle.outage_spec.specs.Calls.{sheetFormat};
 use lexical_format::NumberFormat;
 use lexical_format::Options;
 use lexical_format::WritingCheck;

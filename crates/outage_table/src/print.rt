@@ -3,14 +3,14 @@ ghost use mathlib.Core.Path.{_≡_};
 ghost use mathlib.Core.List.{_∷_, [], _++_};
 ghost use Prim.Native.Nat.{_+_, _≤_, _<_};
 ghost use lib.ListN.{length};
-ghost use Rattle.lexical_digits.specs.Digits.{numeral};
+ghost use Rattle.lexical_write_integer_spec.specs.Digits.{numeral};
 ghost use Rattle.lexical_write_float.specs.Code.{Puts};
 ghost use Rattle.outage_table.specs.Text.{textOf, rowOf, HasText, HasTexts};
 use lexical_format::NumberFormat;
 use lexical_format::Options;
 use lexical_util::Written;
 use lexical_write_float::write_f64;
-use outage::Window;
+use outage_spec::Window;
 
 // The length of a float's text. It is written into scratch bytes, which have room for every text.
 fn text_length(x: f64, format: NumberFormat, options: Options, scratch: &mut [u8]) -> usize

@@ -2,13 +2,13 @@
 ghost use mathlib.Core.Path.{_≡_};
 ghost use Prim.Native.Nat.{_≤_, _<_};
 ghost use lib.ListN.{length};
-ghost use Rattle.outage.specs.Window.{ofCheckedWindow};
-ghost use Rattle.outage.specs.Table.{tableSize, tableCount, rowAt, rowsFrom};
+ghost use Rattle.outage_spec.specs.Window.{ofCheckedWindow};
+ghost use Rattle.outage_spec.specs.Table.{tableSize, tableCount, rowAt, rowsFrom};
 ghost use Rattle.outage_table.specs.Count.{ofCount, AreRows};
 use crate::word::word_at;
 use lexical_util::Refusal;
-use outage::CheckedWindow;
-use outage::Window;
+use outage_spec::CheckedWindow;
+use outage_spec::Window;
 
 // The count of a table's rows, or 13.
 pub(crate) enum Count {
@@ -65,7 +65,7 @@ pub(crate) fn row_at(table: &[u8], n: usize, i: usize) -> CheckedWindow
         start: f64::from_bits(start),
         end: f64::from_bits(end),
     };
-    match outage::check_window(window) {
+    match outage_spec::check_window(window) {
         CheckedWindow::Passed(passed) => CheckedWindow::Passed(passed),
         CheckedWindow::Refused(refusal) => {
             let number = refusal.number;

@@ -5,11 +5,11 @@ ghost use Prim.Native.Nat.{ℕ, _+_, _≤_};
 ghost use lib.Dec.{leb};
 ghost use lib.ListN.{length};
 ghost use Rattle.lexical_util.specs.Answer.{done, andThen, written, held, ofWritten};
-ghost use Rattle.lexical_digits.specs.Digits.{numeral};
+ghost use Rattle.lexical_write_integer_spec.specs.Digits.{numeral};
 ghost use Rattle.lexical_write_float.specs.Code.{Puts};
-ghost use Rattle.outage.specs.Table.{tableSize, rowsFrom, tableWindows};
-ghost use Rattle.outage.specs.Sheet.{sheetOf};
-ghost use Rattle.outage.specs.Calls.{tableSheet, LongestSheet, WayBack};
+ghost use Rattle.outage_spec.specs.Table.{tableSize, rowsFrom, tableWindows};
+ghost use Rattle.outage_spec.specs.Sheet.{sheetOf};
+ghost use Rattle.outage_spec.specs.Calls.{tableSheet, LongestSheet, WayBack};
 ghost use Rattle.outage_table.specs.Text.{found, rowsOf, Admitted};
 use crate::format::check_format;
 use crate::print::put_count;
@@ -26,7 +26,7 @@ use lexical_format::WritingCheck;
 use lexical_util::Refusal;
 use lexical_util::Written;
 use lexical_write_integer::digit_count;
-use outage::CheckedWindow;
+use outage_spec::CheckedWindow;
 
 // The length of all rows, where they pass.
 fn rows_length(table: &[u8], n: usize, format: NumberFormat, options: Options) -> Written

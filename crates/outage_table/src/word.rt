@@ -2,7 +2,7 @@
 ghost use mathlib.Core.Path.{_≡_};
 ghost use Prim.Native.Nat.{_+_, _^_, _≤_, _<_};
 ghost use lib.ListN.{length};
-ghost use Rattle.outage.specs.Words.{wordAt};
+ghost use Rattle.outage_spec.specs.Words.{wordAt};
 
 // The number in the bytes from a place on, so many of them.
 pub(crate) fn word_at(table: &[u8], at: usize, size: usize) -> u64

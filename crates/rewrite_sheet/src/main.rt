@@ -1,7 +1,7 @@
 // Reads a sheet in one format from standard input and writes the same rows in another, or the refusal.
 ghost use Prim.Native.Nat.{_≤_};
 ghost use lib.ListN.{length};
-use lexical_rewriting::TextFormat;
+use lexical_rewrite_spec::TextFormat;
 use libc::STDERR_FILENO;
 use libc::STDIN_FILENO;
 use libc::STDOUT_FILENO;

@@ -4,7 +4,7 @@ use crate::floats;
 use crate::formats;
 use crate::print;
 use lexical_rewrite::chain_f64;
-use lexical_rewriting::TextFormat;
+use lexical_rewrite_spec::TextFormat;
 
 // Records of 100,000 stations.
 const LONG: usize = 1_900_000;

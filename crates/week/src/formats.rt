@@ -2,7 +2,7 @@
 use lexical_format::NumberFormat;
 use lexical_format::Options;
 use lexical_format::RoundMode;
-use lexical_rewriting::TextFormat;
+use lexical_rewrite_spec::TextFormat;
 
 // Exponent radix 10, point ".", all else default.
 fn text_format(radix: u32, base: u32, mark: u8, required: bool, most: u32) -> TextFormat {

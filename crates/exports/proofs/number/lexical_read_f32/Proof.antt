@@ -2,7 +2,7 @@
 use borrow.Author.Needs.{needs}
 use denote.Ref.{now}
 use lib.Ieee.{binary32}
-use Rattle.lexical_reading.specs.Read.{readFloat}
+use Rattle.lexical_read_float_spec.specs.Read.{readFloat}
 use Rattle.export_structs.specs.Structs.{answerF32Of}
 use Rattle.exports.proofs.ExportLaws.{answered}
 use Rattle.exports.proofs.number.lexical_read_f32.Statement.{statement}

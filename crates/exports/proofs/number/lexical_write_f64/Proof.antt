@@ -2,7 +2,7 @@
 use borrow.Author.Needs.{needs}
 use denote.Ref.{now}
 use Rattle.lexical_util.specs.Answer.{written, held}
-use Rattle.lexical_text.specs.Write.{writeText}
+use Rattle.lexical_write_float_spec.specs.Write.{writeText}
 use Rattle.export_structs.specs.Structs.{answerOf}
 use Rattle.exports.proofs.ExportLaws.{handed-on}
 use Rattle.exports.proofs.number.lexical_write_f64.Statement.{statement}

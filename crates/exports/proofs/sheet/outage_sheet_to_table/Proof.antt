@@ -3,7 +3,7 @@ use borrow.Author.Needs.{needs}
 use denote.Ref.{now}
 use lib.ListN.{length}
 use Rattle.lexical_util.specs.Answer.{written, held}
-use Rattle.outage.specs.Calls.{sheetTable}
+use Rattle.outage_spec.specs.Calls.{sheetTable}
 use Rattle.export_structs.specs.Structs.{answerOf}
 use Rattle.exports.proofs.ExportLaws.{handed-on}
 use Rattle.exports.proofs.sheet.outage_sheet_to_table.Statement.{statement}

@@ -2,7 +2,7 @@
 use borrow.Author.Needs.{needs}
 use denote.Ref.{now}
 use Rattle.lexical_util.specs.Answer.{written, held}
-use Rattle.outage.specs.Calls.{tableSheet}
+use Rattle.outage_spec.specs.Calls.{tableSheet}
 use Rattle.export_structs.specs.Structs.{answerOf}
 use Rattle.exports.proofs.ExportLaws.{handed-on}
 use Rattle.exports.proofs.sheet.outage_table_to_sheet.Statement.{statement}

@@ -2,9 +2,9 @@
 use borrow.Author.Needs.{needs}
 use denote.Ref.{now}
 use lib.Ieee.{binary32}
-use Rattle.lexical_rewriting.specs.declared.text_format.TextFormat.{TextFormat}
-use Rattle.lexical_rewriting.specs.Record.{formatsOf}
-use Rattle.lexical_rewriting.specs.Chain.{Outcome, chainOf}
+use Rattle.lexical_rewrite_spec.specs.declared.text_format.TextFormat.{TextFormat}
+use Rattle.lexical_rewrite_spec.specs.Record.{formatsOf}
+use Rattle.lexical_rewrite_spec.specs.Chain.{Outcome, chainOf}
 use Rattle.export_structs.specs.Structs.{stationAnswerOf}
 use Rattle.exports.proofs.ExportLaws.{handed-on}
 use Rattle.exports.proofs.station.lexical_chain_f32.Statement.{statement}

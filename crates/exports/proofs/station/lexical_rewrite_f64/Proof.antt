@@ -2,8 +2,8 @@
 use borrow.Author.Needs.{needs}
 use denote.Ref.{now}
 use lib.Ieee.{binary64}
-use Rattle.lexical_rewriting.specs.Rewrite.{readIn, rewriteAnswer, rewriteBytes}
-use Rattle.lexical_rewriting.specs.Chain.{atStation}
+use Rattle.lexical_rewrite_spec.specs.Rewrite.{readIn, rewriteAnswer, rewriteBytes}
+use Rattle.lexical_rewrite_spec.specs.Chain.{atStation}
 use Rattle.export_structs.specs.Structs.{stationAnswerOf}
 use Rattle.exports.proofs.ExportLaws.{handed-on}
 use Rattle.exports.proofs.station.lexical_rewrite_f64.Statement.{statement}

@@ -2,7 +2,7 @@
 use mathlib.Core.Path.{_∙_}
 use native.Mathlib.Omega.{arith}
 use borrow.Author.Needs.{needs}
-use Rattle.lexical_reading.specs.Shape.{Grammar}
+use Rattle.lexical_read_float_spec.specs.Shape.{Grammar}
 use Rattle.lexical_read_float.specs.Scan.{grammar}
 use Rattle.lexical_read_float.proofs.ScanLaws.{text-empty, text-mantissa, number-bounded}
 use Rattle.lexical_read_float.proofs.scan.scan.Statement.{statement}

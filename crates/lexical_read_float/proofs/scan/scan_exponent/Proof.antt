@@ -3,7 +3,7 @@ use Prim.Native.Nat.{_+_}
 use mathlib.Core.Path.{refl, sym, ap, _∙_}
 use native.Mathlib.Omega.{arith}
 use borrow.Author.Needs.{needs}
-use Rattle.lexical_reading.specs.Shape.{unsigned, plus, minus}
+use Rattle.lexical_read_float_spec.specs.Shape.{unsigned, plus, minus}
 use Rattle.lexical_read_float.specs.Scan.{scannedTail}
 use Rattle.lexical_read_float.proofs.ScanLaws.{sign-missing, sign-plus, sign-minus, sign-none}
 use Rattle.lexical_read_float.proofs.scan.scan_exponent.Statement.{statement}

@@ -1,6 +1,6 @@
 -- `lexical_record::record::number_format_of` meets its contract, byte by byte. Assumes nothing.
 use borrow.Author.Needs.{needs}
-use Rattle.lexical_rewriting.specs.Record.{numberFormatOf}
+use Rattle.lexical_rewrite_spec.specs.Record.{numberFormatOf}
 use Rattle.lexical_record.proofs.record.number_format_of.Statement.{statement}
 use Rattle.lexical_record.proofs.record.number_format_of.Tie as tie
 

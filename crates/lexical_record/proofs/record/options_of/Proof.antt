@@ -2,7 +2,7 @@
 use mathlib.Core.Path.{_∙_}
 use borrow.Author.Needs.{needs}
 use Rattle.lexical_util.proofs.DifferenceLaws.{read-back}
-use Rattle.lexical_rewriting.specs.Record.{optionsOf}
+use Rattle.lexical_rewrite_spec.specs.Record.{optionsOf}
 use Rattle.lexical_record.proofs.record.options_of.Statement.{statement}
 use Rattle.lexical_record.proofs.record.options_of.Tie as tie
 

@@ -1,7 +1,7 @@
 -- `lexical_record::record::signed_at` meets its contract: two's complement below 0. Assumes nothing.
 use mathlib.Core.Path.{ap, _∙_}
 use borrow.Author.Needs.{needs}
-use Rattle.lexical_rewriting.specs.Record.{signed}
+use Rattle.lexical_rewrite_spec.specs.Record.{signed}
 use Rattle.lexical_record.proofs.SignedLaws.{signed-low, signed-high, high-fits}
 use Rattle.lexical_record.proofs.record.signed_at.Statement.{statement}
 use Rattle.lexical_record.proofs.record.signed_at.Tie as tie

@@ -1,7 +1,7 @@
 -- `lexical_rewrite::chain::at_station` meets its contract, case by case. Assumes nothing.
 use mathlib.Core.Path.{sym, ap}
 use borrow.Author.Needs.{needs}
-use Rattle.lexical_rewriting.specs.Chain.{atStation}
+use Rattle.lexical_rewrite_spec.specs.Chain.{atStation}
 use Rattle.lexical_rewrite.specs.declared.rewrite.Rewritten.{Rewritten}
 use Rattle.lexical_rewrite.specs.Answer.{ofRewritten}
 use Rattle.lexical_rewrite.proofs.chain.at_station.Statement.{statement}

@@ -6,9 +6,9 @@ use native.Mathlib.Omega.{arith}
 use borrow.Author.Needs.{needs}
 use lib.ListN.{take, length-replicate}
 use Rattle.lexical_float.specs.Encoding.{formatOf}
-use Rattle.lexical_rewriting.specs.Rewrite.{readIn}
-use Rattle.lexical_rewriting.specs.Chain.{Outcome, atStation, ownBuffer}
-use Rattle.lexical_rewriting.proofs.StationLaws.{rewritten-fits}
+use Rattle.lexical_rewrite_spec.specs.Rewrite.{readIn}
+use Rattle.lexical_rewrite_spec.specs.Chain.{Outcome, atStation, ownBuffer}
+use Rattle.lexical_rewrite_spec.proofs.StationLaws.{rewritten-fits}
 use Rattle.lexical_rewrite.specs.Answer.{ofRewritten}
 use Rattle.lexical_rewrite.specs.Code.{onFrom}
 use Rattle.lexical_rewrite.proofs.ChainLaws.{first-alone, on-written, on-reading, on-writing}

@@ -1,8 +1,8 @@
 -- `lexical_rewrite::chain::chain_f32` meets its contract, by the chain at its width. Assumes nothing.
 use borrow.Author.Needs.{needs}
 use lib.Ieee.{binary32}
-use Rattle.lexical_rewriting.specs.Record.{formatsOf}
-use Rattle.lexical_rewriting.proofs.DemandLaws.{never-lost-by}
+use Rattle.lexical_rewrite_spec.specs.Record.{formatsOf}
+use Rattle.lexical_rewrite_spec.proofs.DemandLaws.{never-lost-by}
 use Rattle.lexical_rewrite.specs.Answer.{ofChained}
 use Rattle.lexical_rewrite.proofs.chain.chain_f32.Statement.{statement}
 use Rattle.lexical_rewrite.proofs.chain.chain_f32.Tie as tie

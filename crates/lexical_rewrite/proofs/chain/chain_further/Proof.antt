@@ -6,10 +6,10 @@ use borrow.Author.Needs.{needs}
 use lib.ListN.{length, take, drop}
 use lib.Seq.{length-take-le}
 use Rattle.lexical_float.specs.Encoding.{formatOf}
-use Rattle.lexical_rewriting.specs.declared.text_format.TextFormat.{TextFormat}
-use Rattle.lexical_rewriting.specs.Rewrite.{readIn}
-use Rattle.lexical_rewriting.specs.Chain.{Outcome, atStation}
-use Rattle.lexical_rewriting.proofs.StationLaws.{rewritten-fits}
+use Rattle.lexical_rewrite_spec.specs.declared.text_format.TextFormat.{TextFormat}
+use Rattle.lexical_rewrite_spec.specs.Rewrite.{readIn}
+use Rattle.lexical_rewrite_spec.specs.Chain.{Outcome, atStation}
+use Rattle.lexical_rewrite_spec.proofs.StationLaws.{rewritten-fits}
 use Rattle.lexical_rewrite.specs.Answer.{ofRewritten}
 use Rattle.lexical_rewrite.specs.Code.{onFrom, sourceAt}
 use Rattle.lexical_rewrite.proofs.ChainLaws.{from-last, from-written, from-reading, from-writing, source-first, source-next}

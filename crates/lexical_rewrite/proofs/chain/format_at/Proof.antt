@@ -4,7 +4,7 @@ use mathlib.Core.List.{List}
 use Prim.Native.Nat.{ℕ}
 use borrow.Author.Needs.{needs}
 use borrow.Rule.Slice.PartAt.{part-to-end}
-use Rattle.lexical_rewriting.specs.Record.{formatOf}
+use Rattle.lexical_rewrite_spec.specs.Record.{formatOf}
 use Rattle.lexical_rewrite.proofs.chain.format_at.Statement.{statement}
 use Rattle.lexical_rewrite.proofs.chain.format_at.Tie as tie
 

@@ -3,7 +3,7 @@ use mathlib.Core.Path.{sym, ap}
 use borrow.Author.Needs.{needs}
 use Rattle.lexical_util.specs.declared.answer.Written.{Written}
 use Rattle.lexical_util.specs.Answer.{ofWritten}
-use Rattle.lexical_rewriting.specs.Rewrite.{byWriting}
+use Rattle.lexical_rewrite_spec.specs.Rewrite.{byWriting}
 use Rattle.lexical_rewrite.proofs.rewrite.by_writing.Statement.{statement}
 use Rattle.lexical_rewrite.proofs.rewrite.by_writing.Tie as tie
 

@@ -1,7 +1,7 @@
 -- `lexical_rewrite::rewrite::rewrite_f64` meets its contract, by the reading's answer. Assumes nothing.
 use borrow.Author.Needs.{needs}
 use lib.Ieee.{binary64}
-use Rattle.lexical_rewriting.proofs.DemandLaws.{same-as-others-by}
+use Rattle.lexical_rewrite_spec.proofs.DemandLaws.{same-as-others-by}
 use Rattle.lexical_rewrite.specs.Answer.{ofRewritten}
 use Rattle.lexical_rewrite.proofs.rewrite.rewrite_f64.Statement.{statement}
 use Rattle.lexical_rewrite.proofs.rewrite.rewrite_f64.Tie as tie

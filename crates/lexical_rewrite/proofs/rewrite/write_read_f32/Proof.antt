@@ -1,7 +1,7 @@
 -- `lexical_rewrite::rewrite::write_read_f32` meets its contract: the reading's refusal, or what the writing answers. Assumes nothing.
 use mathlib.Core.Path.{refl, ap, _∙_}
 use borrow.Author.Needs.{needs}
-use Rattle.lexical_rewriting.specs.Rewrite.{byWriting}
+use Rattle.lexical_rewrite_spec.specs.Rewrite.{byWriting}
 use Rattle.lexical_read_float.specs.Answer.{ofReadF32}
 use Rattle.lexical_rewrite.proofs.rewrite.write_read_f32.Statement.{statement}
 use Rattle.lexical_rewrite.proofs.rewrite.write_read_f32.Tie as tie

@@ -7,7 +7,7 @@ use borrow.Author.Needs.{needs}
 use lib.Count.{trailingZeros}
 use lib.IntN.{ℤ}
 use Rattle.lexical_write_float.proofs.StoredLaws.{raised-is}
-use Rattle.lexical_text.proofs.ValueLaws.{trailing-lt, normal-trailing, normal-zero}
+use Rattle.lexical_write_float_spec.proofs.ValueLaws.{trailing-lt, normal-trailing, normal-zero}
 use Rattle.lexical_write_float.proofs.binary.normalized.Statement.{statement}
 use Rattle.lexical_write_float.proofs.binary.normalized.Tie as tie
 

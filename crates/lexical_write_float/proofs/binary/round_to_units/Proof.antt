@@ -2,7 +2,7 @@
 use Prim.Native.Nat.{_^_}
 use native.Mathlib.Nat.{div-le-self}
 use native.Mathlib.Omega.{arith}
-use Rattle.lexical_text.proofs.LimitLaws.{truncates, rounds-down, rounds-tie, rounds-up}
+use Rattle.lexical_write_float_spec.proofs.LimitLaws.{truncates, rounds-down, rounds-tie, rounds-up}
 use Rattle.lexical_write_float.proofs.StoredLaws.{unit-is, rest-is}
 use borrow.Author.Needs.{needs}
 use Rattle.lexical_write_float.proofs.binary.round_to_units.Statement.{statement}

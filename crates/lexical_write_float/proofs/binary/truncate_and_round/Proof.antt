@@ -9,11 +9,11 @@ use lib.Ieee.{size}
 use lib.Ieee.Digits.{size-le}
 use Rattle.lexical_util.specs.Exponent.{scale, modulo}
 use Rattle.lexical_util.proofs.PowerLaws.{size-pos}
-use Rattle.lexical_text.specs.Value.{normal}
-use Rattle.lexical_text.specs.Range.{Between}
-use Rattle.lexical_text.proofs.Integers.{between-wider}
+use Rattle.lexical_write_float_spec.specs.Value.{normal}
+use Rattle.lexical_write_float_spec.specs.Range.{Between}
+use Rattle.lexical_write_float_spec.proofs.Integers.{between-wider}
 use Rattle.lexical_write_float.proofs.StoredLaws.{raised-is, scale-held, raised-near}
-use Rattle.lexical_text.proofs.LimitLaws.{limited-none, limited-zero, kept, limited-kept, limited-cut}
+use Rattle.lexical_write_float_spec.proofs.LimitLaws.{limited-none, limited-zero, kept, limited-kept, limited-cut}
 use Rattle.lexical_write_float.proofs.binary.truncate_and_round.Statement.{statement}
 use Rattle.lexical_write_float.proofs.binary.truncate_and_round.Tie as tie
 

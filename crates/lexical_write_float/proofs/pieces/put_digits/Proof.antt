@@ -4,9 +4,9 @@ use mathlib.Core.Path.{_≡_, sym, ap, _∙_}
 use native.Mathlib.Omega.{arith}
 use Rattle.lexical_util.specs.Answer.{done, ofWritten}
 use lib.ListN.{length}
-use Rattle.lexical_digits.specs.Write.{lastNumeral, mantissaText}
-use Rattle.lexical_digits.proofs.LastLaws.{length-last}
-use Rattle.lexical_digits.proofs.MantissaAnswer.{asked}
+use Rattle.lexical_write_integer_spec.specs.Write.{lastNumeral, mantissaText}
+use Rattle.lexical_write_integer_spec.proofs.LastLaws.{length-last}
+use Rattle.lexical_write_integer_spec.proofs.MantissaAnswer.{asked}
 use Rattle.lexical_write_float.proofs.PutLaws.{part-count, part-puts, part-refused}
 use borrow.Author.Needs.{needs}
 use Rattle.lexical_write_float.proofs.pieces.put_digits.Statement.{statement}

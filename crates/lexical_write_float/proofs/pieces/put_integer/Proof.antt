@@ -2,8 +2,8 @@
 use mathlib.Core.Path.{_≡_, sym, ap, _∙_}
 use native.Mathlib.Omega.{arith}
 use Rattle.lexical_util.specs.Answer.{done, ofWritten}
-use Rattle.lexical_digits.specs.Digits.{numeral}
-use Rattle.lexical_digits.specs.Write.{digitsText}
+use Rattle.lexical_write_integer_spec.specs.Digits.{numeral}
+use Rattle.lexical_write_integer_spec.specs.Write.{digitsText}
 use Rattle.lexical_write_float.proofs.PutLaws.{part-count, part-puts, part-refused}
 use borrow.Author.Needs.{needs}
 use Rattle.lexical_write_float.proofs.pieces.put_integer.Statement.{statement}

@@ -5,7 +5,7 @@ use mathlib.Core.List.{[], _∷_}
 use native.Mathlib.Omega.{arith}
 use borrow.Author.Needs.{needs}
 use lib.Pow.{pow-pos}
-use Rattle.lexical_digits.specs.Write.{lastNumeral}
+use Rattle.lexical_write_integer_spec.specs.Write.{lastNumeral}
 use Rattle.lexical_write_integer.proofs.FillLaws.{shifted}
 use Rattle.lexical_write_float.proofs.OneDigit.{one-last}
 use Rattle.lexical_write_float.proofs.pieces.put_leading.Statement.{statement}

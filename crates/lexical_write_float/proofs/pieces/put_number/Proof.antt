@@ -6,7 +6,7 @@ use native.Mathlib.Omega.{arith}
 use borrow.Author.Needs.{needs}
 use lib.ListN.{length}
 use Rattle.lexical_util.proofs.RadixLaws.{radix-bounds}
-use Rattle.lexical_digits.specs.Digits.{numeral}
+use Rattle.lexical_write_integer_spec.specs.Digits.{numeral}
 use Rattle.lexical_write_float.proofs.OneDigit.{one-numeral}
 use Rattle.lexical_write_float.proofs.pieces.put_number.Statement.{statement}
 use Rattle.lexical_write_float.proofs.pieces.put_number.Tie as tie

@@ -5,7 +5,7 @@ use mathlib.Core.List.{List, [], _∷_, _++_}
 use native.Mathlib.Omega.{arith}
 use borrow.Author.Needs.{needs}
 use lib.ListN.{length}
-use Rattle.lexical_digits.specs.Digits.{numeral}
+use Rattle.lexical_write_integer_spec.specs.Digits.{numeral}
 use Rattle.lexical_write_float.proofs.OneDigit.{two-numeral}
 use Rattle.lexical_write_float.proofs.PutLaws.{puts-more}
 use Rattle.lexical_write_float.proofs.pieces.put_two_digits.Statement.{statement}

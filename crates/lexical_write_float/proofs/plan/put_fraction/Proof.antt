@@ -5,8 +5,8 @@ use lib.ListN.{length, length-replicate}
 use Rattle.lexical_write_float.specs.Code.{digitsOf, fractionText}
 use Rattle.lexical_write_float.proofs.PutLaws.{puts-none, puts-more}
 use Rattle.lexical_write_float.proofs.PlanLaws.{fraction-length}
-use Rattle.lexical_digits.proofs.LastLaws.{length-last}
-use Rattle.lexical_digits.proofs.SplitLaws.{back}
+use Rattle.lexical_write_integer_spec.proofs.LastLaws.{length-last}
+use Rattle.lexical_write_integer_spec.proofs.SplitLaws.{back}
 use borrow.Author.Needs.{needs}
 use Rattle.lexical_write_float.proofs.plan.put_fraction.Statement.{statement}
 use Rattle.lexical_write_float.proofs.plan.put_fraction.Tie as tie

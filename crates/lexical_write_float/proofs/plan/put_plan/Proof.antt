@@ -6,8 +6,8 @@ use lib.ListN.{length, length-replicate}
 use Rattle.lexical_write_float.specs.Code.{digitsOf, fractionText, planText}
 use Rattle.lexical_write_float.proofs.PutLaws.{puts-more}
 use Rattle.lexical_write_float.proofs.PlanLaws.{plan-length}
-use Rattle.lexical_digits.proofs.LastLaws.{length-last}
-use Rattle.lexical_digits.proofs.SplitLaws.{front, shift-small}
+use Rattle.lexical_write_integer_spec.proofs.LastLaws.{length-last}
+use Rattle.lexical_write_integer_spec.proofs.SplitLaws.{front, shift-small}
 use borrow.Author.Needs.{needs}
 use Rattle.lexical_write_float.proofs.plan.put_plan.Statement.{statement}
 use Rattle.lexical_write_float.proofs.plan.put_plan.Tie as tie

@@ -1,5 +1,5 @@
 -- `lexical_write_float::shared::choose_layout` meets its contract: scientific, else by the sign of s. Assumes nothing.
-use Rattle.lexical_text.specs.Text.{layoutOf}
+use Rattle.lexical_write_float_spec.specs.Text.{layoutOf}
 use mathlib.Core.Path.{refl, sym, _∙_}
 use Rattle.lexical_write_float.proofs.shared.choose_layout.Statement.{statement}
 use Rattle.lexical_write_float.proofs.shared.choose_layout.Tie as tie

@@ -3,9 +3,9 @@ use Prim.Native.Nat.{_≤_}
 use mathlib.Core.Path.{_≡_, refl, _∙_}
 use native.Mathlib.Omega.{arith}
 use lib.ListN.{length}
-use Rattle.lexical_digits.specs.Digits.{numeral}
+use Rattle.lexical_write_integer_spec.specs.Digits.{numeral}
 use Rattle.lexical_write_float.proofs.PowerLaws.{count-is, tail-length}
-use Rattle.lexical_text.proofs.LengthLaws.{few-digits}
+use Rattle.lexical_write_float_spec.proofs.LengthLaws.{few-digits}
 use borrow.Author.Needs.{needs}
 use Rattle.lexical_write_float.proofs.shared.exponent_length.Statement.{statement}
 use Rattle.lexical_write_float.proofs.shared.exponent_length.Tie as tie

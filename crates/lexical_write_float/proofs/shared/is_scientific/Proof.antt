@@ -1,6 +1,6 @@
 -- `lexical_write_float::shared::is_scientific` meets its contract: by the two flags, then by the breaks. Assumes nothing.
 use Rattle.lexical_format.specs.Format.{outside}
-use Rattle.lexical_text.specs.Text.{isScientific}
+use Rattle.lexical_write_float_spec.specs.Text.{isScientific}
 use mathlib.Core.Path.{refl, _∙_}
 use Rattle.lexical_write_float.proofs.shared.is_scientific.Statement.{statement}
 use Rattle.lexical_write_float.proofs.shared.is_scientific.Tie as tie

@@ -5,7 +5,7 @@ use Rattle.lexical_write_float.proofs.PowerLaws.{tail-length}
 use Rattle.lexical_write_float.proofs.PutLaws.{puts-more, puts-none}
 use Prim.Native.Nat.{_+_, _≤_}
 use lib.ListN.{length}
-use Rattle.lexical_digits.specs.Digits.{numeral}
+use Rattle.lexical_write_integer_spec.specs.Digits.{numeral}
 use borrow.Author.Needs.{needs}
 use Rattle.lexical_write_float.proofs.shared.write_exponent.Statement.{statement}
 use Rattle.lexical_write_float.proofs.shared.write_exponent.Tie as tie

@@ -3,12 +3,12 @@ use Prim.Native.Nat.{_≤_, _<_, ℕ, _*_, _%_, _^_}
 use mathlib.Core.Path.{_≡_, sym, ap, _∙_}
 use native.Mathlib.Omega.{arith}
 use lib.ListN.{length}
-use Rattle.lexical_digits.specs.Digits.{numeral}
+use Rattle.lexical_write_integer_spec.specs.Digits.{numeral}
 use Rattle.lexical_util.specs.Exponent.{modulo}
-use Rattle.lexical_text.specs.Value.{exactDigits}
-use Rattle.lexical_digits.proofs.DigitsAnswer.{log-known}
-use Rattle.lexical_digits.proofs.DigitsLaws.{length-numeral}
-use Rattle.lexical_text.proofs.ValueLaws.{exact-few}
+use Rattle.lexical_write_float_spec.specs.Value.{exactDigits}
+use Rattle.lexical_write_integer_spec.proofs.DigitsAnswer.{log-known}
+use Rattle.lexical_write_integer_spec.proofs.DigitsLaws.{length-numeral}
+use Rattle.lexical_write_float_spec.proofs.ValueLaws.{exact-few}
 use Rattle.lexical_write_float.proofs.TextLaws.{shift-below, shift-fits}
 use borrow.Author.Needs.{needs}
 use Rattle.lexical_write_float.proofs.write.digits_of.Statement.{statement}

@@ -6,7 +6,7 @@ use mathlib.Core.List.{List}
 use lib.ListN.{length}
 use Rattle.lexical_format.specs.declared.format.NumberFormat.{NumberFormat}
 use Rattle.lexical_format.specs.declared.options.Options.{Options}
-use Rattle.lexical_text.specs.Text.{digitsSoFar}
+use Rattle.lexical_write_float_spec.specs.Text.{digitsSoFar}
 use Rattle.lexical_write_float.proofs.write.digits_so_far.Statement.{statement}
 use Rattle.lexical_write_float.proofs.write.digits_so_far.Tie as tie
 

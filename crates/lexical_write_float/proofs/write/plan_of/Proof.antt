@@ -1,6 +1,6 @@
 -- `lexical_write_float::write::plan_of` meets its contract: by the layout. Assumes nothing.
 use mathlib.Core.List.{List}
-use Rattle.lexical_text.specs.Text.{point, positive}
+use Rattle.lexical_write_float_spec.specs.Text.{point, positive}
 use Rattle.lexical_write_float.specs.Code.{IsPlan}
 use mathlib.Core.Path.{subst}
 use Prim.Native.Nat.{ℕ}

@@ -6,10 +6,10 @@ use lib.IntN.{natAbs}
 use lib.ListN.{length}
 use Rattle.lexical_util.specs.Answer.{done, held}
 use Rattle.lexical_util.specs.Exponent.{scale, place}
-use Rattle.lexical_text.specs.Text.{point, layoutOf, text}
+use Rattle.lexical_write_float_spec.specs.Text.{point, layoutOf, text}
 use Rattle.lexical_write_float.specs.Code.{rowOf, digitsOf, planText, bodyText, tailText}
-use Rattle.lexical_text.proofs.RangeLaws.{place-near}
-use Rattle.lexical_text.proofs.LengthLaws.{power-few}
+use Rattle.lexical_write_float_spec.proofs.RangeLaws.{place-near}
+use Rattle.lexical_write_float_spec.proofs.LengthLaws.{power-few}
 use Rattle.lexical_write_float.proofs.StoredLaws.{near-held}
 use Rattle.lexical_write_float.proofs.TextLaws.{Known, known, counted-some, IsLaid, laid-text}
 use native.Mathlib.Omega.{arith}

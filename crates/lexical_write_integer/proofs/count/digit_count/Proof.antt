@@ -2,7 +2,7 @@
 use mathlib.Core.Path.{sym, _∙_}
 use borrow.Author.Needs.{needs}
 use Rattle.lexical_util.proofs.BitsLaws.{power-of}
-use Rattle.lexical_digits.proofs.DigitsAnswer.{log-known, count-known, count-decimal, count-unknown}
+use Rattle.lexical_write_integer_spec.proofs.DigitsAnswer.{log-known, count-known, count-decimal, count-unknown}
 use Rattle.lexical_write_integer.proofs.count.digit_count.Statement.{statement}
 use Rattle.lexical_write_integer.proofs.count.digit_count.Tie as tie
 

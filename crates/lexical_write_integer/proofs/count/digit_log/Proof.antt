@@ -2,9 +2,9 @@
 use mathlib.Core.Path.{_≡_, sym, _∙_}
 use native.Mathlib.Omega.{arith}
 use borrow.Author.Needs.{needs}
-use Rattle.lexical_digits.specs.Write.{digitLog}
-use Rattle.lexical_digits.proofs.CountLaws.{log-small, count-log}
-use Rattle.lexical_digits.proofs.DigitsAnswer.{log-known}
+use Rattle.lexical_write_integer_spec.specs.Write.{digitLog}
+use Rattle.lexical_write_integer_spec.proofs.CountLaws.{log-small, count-log}
+use Rattle.lexical_write_integer_spec.proofs.DigitsAnswer.{log-known}
 use Rattle.lexical_write_integer.proofs.count.digit_log.Statement.{statement}
 use Rattle.lexical_write_integer.proofs.count.digit_log.Tie as tie
 

@@ -4,7 +4,7 @@ use mathlib.Core.Path.{_≡_, refl}
 use mathlib.Core.List.{_++_}
 use native.Mathlib.Omega.{arith}
 use lib.ListN.{length, drop, length-set}
-use Rattle.lexical_digits.specs.Write.{lastNumeral}
+use Rattle.lexical_write_integer_spec.specs.Write.{lastNumeral}
 use Rattle.lexical_write_integer.proofs.FillLaws.{back-step, back-end}
 use Rattle.lexical_write_integer.proofs.decimal.decimal.Statement.{statement}
 use Rattle.lexical_write_integer.proofs.decimal.decimal.Tie as tie

@@ -3,8 +3,8 @@ use Prim.Native.Nat.{_+_, _≤_}
 use mathlib.Core.Path.{_≡_}
 use native.Mathlib.Omega.{arith}
 use lib.ListN.{length}
-use Rattle.lexical_digits.specs.Digits.{digits}
-use Rattle.lexical_digits.proofs.DigitsLaws.{count-lt, count-ge}
+use Rattle.lexical_write_integer_spec.specs.Digits.{digits}
+use Rattle.lexical_write_integer_spec.proofs.DigitsLaws.{count-lt, count-ge}
 use Rattle.lexical_write_integer.proofs.decimal.decimal_count.Statement.{statement}
 use Rattle.lexical_write_integer.proofs.decimal.decimal_count.Tie as tie
 

@@ -5,7 +5,7 @@ use native.Mathlib.Omega.{arith}
 use borrow.Author.Needs.{needs}
 use borrow.Author.Tests.{ltb-true, ltb-false}
 use denote.Ref.{now}
-use Rattle.lexical_digits.proofs.MantissaAnswer.{unknown, short, fits}
+use Rattle.lexical_write_integer_spec.proofs.MantissaAnswer.{unknown, short, fits}
 use Rattle.lexical_write_integer.proofs.mantissa.write_mantissa.Statement.{statement}
 use Rattle.lexical_write_integer.proofs.mantissa.write_mantissa.Tie as tie
 

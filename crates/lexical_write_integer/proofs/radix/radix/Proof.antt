@@ -6,7 +6,7 @@ use native.Mathlib.Omega.{arith}
 use lib.ListN.{length, drop, length-set}
 use lib.Pow.{pow-pos}
 use Rattle.lexical_util.specs.Digit.{digitByte}
-use Rattle.lexical_digits.specs.Write.{lastNumeral}
+use Rattle.lexical_write_integer_spec.specs.Write.{lastNumeral}
 use Rattle.lexical_util.proofs.TableLaws.{tab-at}
 use Rattle.lexical_write_integer.proofs.PairLaws.{Chars}
 use Rattle.lexical_write_integer.proofs.FillLaws.{back-step, back-end, shifted, masked, masked-lt}

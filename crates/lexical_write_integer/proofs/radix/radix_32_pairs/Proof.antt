@@ -7,7 +7,7 @@ use native.Mathlib.Omega.{arith}
 use borrow.Author.Needs.{needs}
 use lib.ListN.{length, drop, length-set}
 use Rattle.lexical_util.specs.Digit.{digitByte}
-use Rattle.lexical_digits.specs.Write.{lastNumeral}
+use Rattle.lexical_write_integer_spec.specs.Write.{lastNumeral}
 use Rattle.lexical_write_integer.specs.Table.{pairByte}
 use Rattle.lexical_util.proofs.TableLaws.{tab-at}
 use Rattle.lexical_write_integer.proofs.PairLaws.{Pairs, two-steps}

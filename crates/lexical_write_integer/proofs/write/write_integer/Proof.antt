@@ -3,7 +3,7 @@ use mathlib.Core.Path.{sym, _∙_}
 use native.Mathlib.Omega.{arith}
 use borrow.Author.Needs.{needs}
 use denote.Ref.{now}
-use Rattle.lexical_digits.proofs.DigitsAnswer.{fits, short, unknown}
+use Rattle.lexical_write_integer_spec.proofs.DigitsAnswer.{fits, short, unknown}
 use Rattle.lexical_write_integer.proofs.write.write_integer.Statement.{statement}
 use Rattle.lexical_write_integer.proofs.write.write_integer.Tie as tie
 

@@ -1,7 +1,7 @@
 -- `outage_argument::argument::read_format` meets its contract, by the parts between the slashes. Assumes nothing.
 use mathlib.Core.Path.{sym, ap, _∙_}
 use borrow.Author.Needs.{needs}
-use Rattle.outage.specs.Sheet.{numberIn}
+use Rattle.outage_spec.specs.Sheet.{numberIn}
 use Rattle.outage_argument.proofs.ArgumentLaws.{behind, in-front, one-part, two-parts, three-parts}
 use Rattle.outage_argument.proofs.argument.read_format.Statement.{statement}
 use Rattle.outage_argument.proofs.argument.read_format.Tie as tie

@@ -5,8 +5,8 @@ use native.Mathlib.Omega.{arith}
 use borrow.Author.Needs.{needs}
 use Rattle.lexical_util.specs.Answer.{done, ofWritten}
 use Rattle.lexical_util.specs.Digit.{isRadix}
-use Rattle.lexical_digits.specs.Digits.{numeral}
-use Rattle.lexical_digits.specs.Write.{digitsText}
+use Rattle.lexical_write_integer_spec.specs.Digits.{numeral}
+use Rattle.lexical_write_integer_spec.specs.Write.{digitsText}
 use Rattle.lexical_write_float.proofs.PutLaws.{part-count, part-puts, part-refused}
 use Rattle.outage_console.proofs.refusal.put_number.Statement.{statement}
 use Rattle.outage_console.proofs.refusal.put_number.Tie as tie

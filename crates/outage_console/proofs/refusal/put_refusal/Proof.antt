@@ -3,7 +3,7 @@ use Prim.Native.Nat.{_≤_}
 use native.Mathlib.Omega.{arith}
 use borrow.Author.Needs.{needs}
 use lib.ListN.{length}
-use Rattle.lexical_digits.specs.Digits.{numeral}
+use Rattle.lexical_write_integer_spec.specs.Digits.{numeral}
 use Rattle.lexical_write_float.proofs.PutLaws.{puts-more}
 use Rattle.outage_console.specs.Screen.{refusalLine}
 use Rattle.outage_console.proofs.ScreenLaws.{line-short}

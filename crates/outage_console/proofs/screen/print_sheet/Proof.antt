@@ -1,9 +1,9 @@
 -- `outage_console::screen::print_sheet` meets its contract: no sheet is longer than the bytes lent. Assumes nothing.
 use native.Mathlib.Omega.{arith}
 use borrow.Author.Needs.{needs}
-use Rattle.outage.specs.Format.{printed}
-use Rattle.outage.proofs.LengthLaws.{sheet-short}
-use Rattle.outage.proofs.WordLaws.{all-bytes}
+use Rattle.outage_spec.specs.Format.{printed}
+use Rattle.outage_spec.proofs.LengthLaws.{sheet-short}
+use Rattle.outage_spec.proofs.WordLaws.{all-bytes}
 use Rattle.outage_console.specs.Screen.{printing}
 use Rattle.outage_console.proofs.ScreenLaws.{put-shown}
 use Rattle.outage_console.proofs.WeekLaws.{table-returns}

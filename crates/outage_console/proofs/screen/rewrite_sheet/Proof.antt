@@ -5,8 +5,8 @@ use mathlib.Core.List.{List}
 use native.Mathlib.Omega.{arith}
 use lib.ListN.{take, replicate, length-replicate}
 use Rattle.lexical_util.specs.Answer.{ofWritten}
-use Rattle.outage.specs.Calls.{tableSheet}
-use Rattle.outage.proofs.LengthLaws.{sheet-short}
+use Rattle.outage_spec.specs.Calls.{tableSheet}
+use Rattle.outage_spec.proofs.LengthLaws.{sheet-short}
 use Rattle.outage_console.specs.Screen.{reading, rewriting}
 use Rattle.outage_console.proofs.ScreenLaws.{Got, got, not-got, put-shown, line-shown, reading-within, rewriting-done, rewriting-refused, same-rows}
 use Rattle.outage_console.proofs.WeekLaws.{sheet-returns}

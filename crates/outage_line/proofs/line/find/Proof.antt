@@ -4,7 +4,7 @@ use mathlib.Core.Path.{_≡_}
 use native.Mathlib.Numerals.{add-one}
 use native.Mathlib.Omega.{arith}
 use lib.ListN.{length, drop}
-use Rattle.outage.specs.Sheet.{before}
+use Rattle.outage_spec.specs.Sheet.{before}
 use Rattle.outage_line.proofs.FindLaws.{before-more, before-here, before-none}
 use Rattle.outage_line.proofs.line.find.Statement.{statement}
 use Rattle.outage_line.proofs.line.find.Tie as tie

@@ -3,8 +3,8 @@ use mathlib.Core.Path.{_≡_, sym, _∙_}
 use mathlib.Core.Logic.{⊎-elim}
 use native.Mathlib.Omega.{arith}
 use borrow.Author.Needs.{needs}
-use Rattle.outage.specs.Sheet.{numberOn, numberIn}
-use Rattle.outage.proofs.NumberLaws.{one, no-zero}
+use Rattle.outage_spec.specs.Sheet.{numberOn, numberIn}
+use Rattle.outage_spec.proofs.NumberLaws.{one, no-zero}
 use Rattle.outage_line.proofs.NumberLaws.{in-none, in-zero}
 use Rattle.outage_line.proofs.line.read_number.Statement.{statement}
 use Rattle.outage_line.proofs.line.read_number.Tie as tie

@@ -2,7 +2,7 @@
 use mathlib.Core.Path.{sym, _∙_}
 use native.Mathlib.Omega.{arith}
 use lib.Seq.{length-take-le}
-use Rattle.outage.proofs.BeforeLaws.{before-le}
+use Rattle.outage_spec.proofs.BeforeLaws.{before-le}
 use Rattle.outage_sheet.proofs.RowLaws.{row-none, row-line}
 use borrow.Author.Needs.{needs}
 use Rattle.outage_sheet.proofs.row.row_in.Statement.{statement}

@@ -3,8 +3,8 @@ use Prim.Native.Nat.{ℕ}
 use mathlib.Core.Path.{ap, _∙_}
 use mathlib.Core.List.{List}
 use Rattle.lexical_write_float.specs.Code.{put}
-use Rattle.outage.specs.Words.{toBytes}
-use Rattle.outage.specs.Table.{tableSize}
+use Rattle.outage_spec.specs.Words.{toBytes}
+use Rattle.outage_spec.specs.Table.{tableSize}
 use borrow.Author.Needs.{needs}
 use Rattle.outage_sheet.proofs.store.put_header.Statement.{statement}
 use Rattle.outage_sheet.proofs.store.put_header.Tie as tie

@@ -4,7 +4,7 @@ use mathlib.Core.Path.{ap, _∙_}
 use mathlib.Core.List.{List}
 use lib.Ieee.{binary64, toBits}
 use Rattle.lexical_write_float.specs.Code.{put}
-use Rattle.outage.specs.Words.{toBytes}
+use Rattle.outage_spec.specs.Words.{toBytes}
 use borrow.Author.Needs.{needs}
 use Rattle.outage_sheet.proofs.store.put_window.Statement.{statement}
 use Rattle.outage_sheet.proofs.store.put_window.Tie as tie

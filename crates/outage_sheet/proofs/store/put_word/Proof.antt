@@ -8,8 +8,8 @@ use borrow.Author.Needs.{needs}
 use lib.ListN.{length, length-set}
 use Rattle.lexical_write_float.specs.Code.{put}
 use Rattle.lexical_write_float.proofs.PutLaws.{put-nil, put-one}
-use Rattle.outage.specs.Words.{toBytes}
-use Rattle.outage.proofs.WordLaws.{bytes-more, bytes-none}
+use Rattle.outage_spec.specs.Words.{toBytes}
+use Rattle.outage_spec.proofs.WordLaws.{bytes-more, bytes-none}
 use Rattle.outage_sheet.proofs.StoreLaws.{put-more}
 use Rattle.outage_sheet.proofs.store.put_word.Statement.{statement}
 use Rattle.outage_sheet.proofs.store.put_word.Tie as tie

@@ -7,9 +7,9 @@ use native.Mathlib.Omega.{arith}
 use borrow.Author.Needs.{needs}
 use lib.ListN.{length, drop}
 use Rattle.lexical_util.specs.Answer.{Answer, done, refused}
-use Rattle.outage.specs.declared.window.Window.{Window}
-use Rattle.outage.specs.Window.{ofCheckedWindow}
-use Rattle.outage.specs.Sheet.{before, rowIn}
+use Rattle.outage_spec.specs.declared.window.Window.{Window}
+use Rattle.outage_spec.specs.Window.{ofCheckedWindow}
+use Rattle.outage_spec.specs.Sheet.{before, rowIn}
 use Rattle.outage_sheet.specs.Fill.{Stored, putWindow}
 use Rattle.outage_sheet.proofs.RowLaws.{Within, end-there, row-there, row-known, row-ends}
 use Rattle.outage_sheet.proofs.LinesLaws.{Left, left-all, left-more, left-stop, left-extra, left-none}

@@ -7,10 +7,10 @@ use native.Mathlib.Omega.{arith}
 use lib.ListN.{drop, replicate, length-replicate}
 use lib.Seq.{length-take-le}
 use Rattle.lexical_util.specs.Answer.{Answer, done, refused, ofWritten}
-use Rattle.outage.specs.declared.window.Window.{Window}
-use Rattle.outage.specs.Table.{tableSize}
-use Rattle.outage.specs.Sheet.{linesFrom}
-use Rattle.outage.proofs.StoredLaws.{lines-counted}
+use Rattle.outage_spec.specs.declared.window.Window.{Window}
+use Rattle.outage_spec.specs.Table.{tableSize}
+use Rattle.outage_spec.specs.Sheet.{linesFrom}
+use Rattle.outage_spec.proofs.StoredLaws.{lines-counted}
 use Rattle.outage_sheet.proofs.FillLaws.{sizeOf, table-read, table-refused, size-done}
 use borrow.Author.Needs.{needs}
 use Rattle.outage_sheet.proofs.to_table.read_table.Statement.{statement}

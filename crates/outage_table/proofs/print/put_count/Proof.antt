@@ -8,8 +8,8 @@ use lib.ListN.{length}
 use Rattle.lexical_util.specs.Answer.{done, refused, written, held, ofWritten}
 use Rattle.lexical_util.specs.Digit.{isRadix}
 use Rattle.lexical_util.proofs.AnswerLaws.{done-same, refused-done, text-fits}
-use Rattle.lexical_digits.specs.Digits.{numeral}
-use Rattle.lexical_digits.specs.Write.{digitsText}
+use Rattle.lexical_write_integer_spec.specs.Digits.{numeral}
+use Rattle.lexical_write_integer_spec.specs.Write.{digitsText}
 use Rattle.lexical_write_float.specs.Code.{Puts}
 use Rattle.lexical_write_float.proofs.PutLaws.{put-front, puts-more}
 use Rattle.outage_table.proofs.print.put_count.Statement.{statement}

@@ -6,8 +6,8 @@ use borrow.Author.Needs.{needs}
 use lib.ListN.{length}
 use Rattle.lexical_util.specs.Answer.{ofWritten}
 use Rattle.lexical_util.proofs.AnswerLaws.{refused-done}
-use Rattle.lexical_digits.specs.Digits.{numeral}
-use Rattle.outage.specs.Table.{rowsFrom}
+use Rattle.lexical_write_integer_spec.specs.Digits.{numeral}
+use Rattle.outage_spec.specs.Table.{rowsFrom}
 use Rattle.outage_table.proofs.SheetLaws.{count-digits, room-known, length-found, length-refused}
 use Rattle.outage_table.proofs.to_sheet.has_room.Statement.{statement}
 use Rattle.outage_table.proofs.to_sheet.has_room.Tie as tie

@@ -3,12 +3,12 @@ use mathlib.Core.Path.{_≡_, refl, sym, ap, _∙_, subst}
 use mathlib.Core.List.{List}
 use borrow.Author.Needs.{needs}
 use Rattle.lexical_util.specs.Answer.{Answer, done}
-use Rattle.outage.specs.declared.window.Window.{Window}
-use Rattle.outage.specs.Table.{tableCount, rowsFrom}
+use Rattle.outage_spec.specs.declared.window.Window.{Window}
+use Rattle.outage_spec.specs.Table.{tableCount, rowsFrom}
 use Rattle.outage_table.specs.declared.table.Rows.{Rows}
 use Rattle.outage_table.specs.Count.{ofCount, AreRows}
 use Rattle.outage_table.specs.Text.{found}
-use Rattle.outage.proofs.TableLaws.{header}
+use Rattle.outage_spec.proofs.TableLaws.{header}
 use Rattle.outage_table.proofs.SheetLaws.{windows-sheet, windows-wrong, windows-refused}
 use Rattle.outage_table.proofs.to_sheet.print_table.Statement.{statement}
 use Rattle.outage_table.proofs.to_sheet.print_table.Tie as tie

@@ -5,8 +5,8 @@ use native.Mathlib.Omega.{arith}
 use borrow.Author.Needs.{needs}
 use borrow.Author.Tests.{leb-true, leb-false}
 use lib.ListN.{length}
-use Rattle.lexical_digits.specs.Digits.{numeral}
-use Rattle.outage.specs.Table.{rowsFrom}
+use Rattle.lexical_write_integer_spec.specs.Digits.{numeral}
+use Rattle.outage_spec.specs.Table.{rowsFrom}
 use Rattle.outage_table.specs.Text.{found, rowsOf}
 use Rattle.outage_table.proofs.SheetLaws.{sheet-short, sheet-put, rows-place}
 use Rattle.outage_table.proofs.to_sheet.put_sheet.Statement.{statement}

@@ -2,7 +2,7 @@
 use mathlib.Core.Path.{refl, sym, ap, _∙_}
 use borrow.Author.Needs.{needs}
 use Rattle.lexical_format.specs.Format.{ofWritingCheck}
-use Rattle.outage.proofs.WordLaws.{AreBytes, all-bytes}
+use Rattle.outage_spec.proofs.WordLaws.{AreBytes, all-bytes}
 use Rattle.outage_table.specs.Text.{Admitted}
 use Rattle.outage_table.proofs.SheetLaws.{settled-row, settled-refused, sheet-passed, sheet-refused, meets}
 use Rattle.outage_table.proofs.to_sheet.table_to_sheet.Statement.{statement}

@@ -3,8 +3,8 @@ use Prim.Native.Nat.{_+_, _-_, _^_, _≤_, _<_}
 use mathlib.Core.Path.{_≡_}
 use native.Mathlib.Omega.{arith}
 use lib.ListN.{take, drop}
-use Rattle.outage.specs.Words.{ofBytes}
-use Rattle.outage.proofs.WordLaws.{read-start, read-more, read-small, read-grows}
+use Rattle.outage_spec.specs.Words.{ofBytes}
+use Rattle.outage_spec.proofs.WordLaws.{read-start, read-more, read-small, read-grows}
 use Rattle.outage_table.proofs.word.word_at.Statement.{statement}
 use Rattle.outage_table.proofs.word.word_at.Tie as tie
 

@@ -1,0 +1,69 @@
+-- What the laws of reading say, of every format that passes the reader's checks 1, 2, 3. Statements only; `ReadLaws` proves them.
+use Prim.Native.Nat.{ℕ, _≤_, _<_}
+use mathlib.Core.Path.{_≡_}
+use mathlib.Core.Bool.{Bool, false}
+use mathlib.Core.List.{List}
+use lib.ListN.{length}
+use lib.Ieee.{Float, Format, round}
+use Rattle.lexical_util.specs.Answer.{Answer, done, refused}
+use Rattle.lexical_format.specs.declared.format.Pair.{Pair}
+use Rattle.lexical_format.specs.declared.format.NumberFormat.{NumberFormat}
+use Rattle.lexical_format.specs.declared.options.Options.{Options}
+use Rattle.lexical_format.specs.Format.{readingFormat}
+use Rattle.lexical_read_float_spec.specs.Shape.{Shape, WellFormed, print}
+use Rattle.lexical_read_float_spec.specs.Parse.{shapeOf, WrongAt}
+use Rattle.lexical_read_float_spec.specs.Round.{tooLarge, Nearest}
+use Rattle.lexical_read_float_spec.specs.Read.{grammarOf, magnitude, numerator, denominator, readFloat}
+
+-- what is printed is read back as the same shape
+abbrev pub PrintedIsRead : Type 0
+PrintedIsRead =
+    (F : NumberFormat) (o : Options) (row : Pair) (s : Shape) → readingFormat F o ≡ done row → WellFormed (grammarOf F o) s
+    → shapeOf (grammarOf F o) (print (grammarOf F o) s) ≡ done s
+
+-- a shape is found only where it is printed so
+abbrev pub FoundIsPrinted : Type 0
+FoundIsPrinted =
+    (F : NumberFormat) (o : Options) (row : Pair) (t : List ℕ) (s : Shape) → readingFormat F o ≡ done row → shapeOf (grammarOf F o) t ≡ done s
+    → WellFormed (grammarOf F o) s × (print (grammarOf F o) s ≡ t)
+
+-- else it is refusal 9, and its place the least at which no well-shaped text begins so
+abbrev pub PlaceIsLeast : Type 0
+PlaceIsLeast =
+    (F : NumberFormat) (o : Options) (row : Pair) (t : List ℕ) (number place : ℕ) → readingFormat F o ≡ done row → shapeOf (grammarOf F o) t ≡ refused number place
+    → (number ≡ 9) × WrongAt (grammarOf F o) t place
+
+-- the rounding rule picks a nearest float, for a value a / c that is not too large
+abbrev pub RoundIsNearest : Type 0
+RoundIsNearest = (f : Format) (s : Bool) (a c : ℕ) → 0 < c → tooLarge f a c ≡ false → Nearest f s a c (round f s a c)
+
+-- and no other float is nearest
+abbrev pub OnlyOneIsNearest : Type 0
+OnlyOneIsNearest = (f : Format) (s : Bool) (a c : ℕ) (x : Float) → 0 < c → tooLarge f a c ≡ false → Nearest f s a c x → x ≡ round f s a c
+
+-- the float read is the nearest to the text's value, the even one of two
+pub record NearestToText (f : Format) (F : NumberFormat) (o : Options) (t : List ℕ) (x : Float) : Type 0 where
+  pub row : Pair
+  pub shape : Shape
+  pub admitted : readingFormat F o ≡ done row
+  pub shaped : shapeOf (grammarOf F o) t ≡ done shape
+  pub nearest : Nearest f false (numerator row (F .«exponent_radix») shape) (denominator row (F .«exponent_radix») shape) x
+
+abbrev pub ReadIsNearest : Type 0
+ReadIsNearest = (f : Format) (F : NumberFormat) (o : Options) (t : List ℕ) (x : Float) → readFloat f F o t ≡ done x → NearestToText f F o t x
+
+-- what is said of an answer besides: a float answered is nearest,
+abbrev pub IsNearest : Format → NumberFormat → Options → List ℕ → Answer Float → Type 0
+IsNearest f F o t (done x) = NearestToText f F o t x
+IsNearest f F o t (refused n p) = Unit {0}
+
+-- and the text of a shape, of at most 4,096 bytes, in a format that passes the reader's checks, with an exponent of at most 32,767 and a value that is not too large, is never refused
+abbrev pub IsServed : Format → NumberFormat → Options → List ℕ → Answer Float → Type 0
+IsServed f F o t answer =
+    (row : Pair) (s : Shape) → readingFormat F o ≡ done row → length t ≤ 4096 → WellFormed (grammarOf F o) s → print (grammarOf F o) s ≡ t
+    → magnitude (F .«exponent_radix») (s .tail) ≤ 32767
+    → tooLarge f (numerator row (F .«exponent_radix») s) (denominator row (F .«exponent_radix») s) ≡ false
+    → answer ≡ done (round f false (numerator row (F .«exponent_radix») s) (denominator row (F .«exponent_radix») s))
+
+abbrev pub TextsAreServed : Type 0
+TextsAreServed = (f : Format) (F : NumberFormat) (o : Options) (t : List ℕ) → IsServed f F o t (readFloat f F o t)

@@ -1,0 +1,94 @@
+-- Document 01's examples of reading, and settled points of it, as one list against the definition that the contracts cite. Definitions only.
+use Prim.Native.Nat.{ℕ, _+_}
+use Prim.Native.String.{String}
+use mathlib.Core.Bool.{Bool, false}
+use mathlib.Core.List.{List, [], _∷_, _++_}
+use lib.Dec.{eqb}
+use lib.IntN.{pos}
+use lib.ListN.{replicate}
+use lib.Ieee.{Float, Format, binary32, binary64, toBits}
+use Rattle.lexical_util.specs.Answer.{Answer, done, refused}
+use Rattle.lexical_util.specs.Examples.{bytes, sameAnswer, Example}
+use Rattle.lexical_format.specs.declared.format.NumberFormat.{NumberFormat}
+use Rattle.lexical_format.specs.declared.options.Options.{Options}
+use Rattle.lexical_format.specs.declared.options.RoundMode.the-variants.{Round}
+use Rattle.lexical_read_float_spec.specs.Read.{readFloat}
+
+-- r/base/exponent radix, mark "^", all else default
+abbrev pub format : ℕ → ℕ → ℕ → NumberFormat
+format radix base power = record {
+  «mantissa_radix» = radix;
+  «exponent_base» = base;
+  «exponent_radix» = power;
+  «required_exponent_notation» = false;
+  «no_exponent_notation» = false;
+  «required_exponent_sign» = false;
+  «no_exponent_without_fraction» = false;
+}
+
+abbrev pub options : ℕ → ℕ → Options
+options point mark = record {
+  «max_significant_digits» = 0;
+  «min_significant_digits» = 0;
+  «positive_exponent_break» = pos 0;
+  «negative_exponent_break» = pos 0;
+  «round_mode» = Round;
+  «trim_floats» = false;
+  exponent = mark;
+  «decimal_point» = point;
+}
+
+-- floats are compared by their bits
+abbrev pub reads : Format → NumberFormat → Options → List ℕ → Answer ℕ → Bool
+reads f F o t (done bits) = sameFloat (readFloat f F o t)
+  where
+    sameFloat : Answer Float → Bool
+    sameFloat (done x) = eqb (toBits f x) bits
+    sameFloat (refused n p) = false
+reads f F o t (refused n p) = sameAnswer (λ (x y : Float). false) (readFloat f F o t) (refused n p)
+
+abbrev is : String → Answer ℕ → Example
+is t wanted = record { name = t; holds = reads binary64 (format 16 2 10) (options 46 94) (bytes t) wanted }
+
+abbrev one : ℕ
+one = 0x3ff0000000000000
+
+-- 16/2/10, 64-bit
+unfoldable pub reading : List Example
+reading =
+    is "10.0^-4" (done one)
+    ∷ is "1.00000000000008" (done one)
+    ∷ is "1.00000000000009" (done (one + 1))
+    ∷ is "0^32767" (done 0)
+    ∷ is "0^32768" (refused 10 2)
+    ∷ is "0^-9999999999999999999999999" (refused 10 3)
+    ∷ is "1^99999x" (refused 9 7)
+    ∷ is "" (refused 9 0)
+    ∷ is ".5" (refused 9 0)
+    ∷ is "1^" (refused 9 2)
+    ∷ is "1^+" (refused 9 3)
+    ∷ is "1.a" (refused 9 2)
+    ∷ is "1." (done one)
+    ∷ is "1.^5" (done 0x4040000000000000)
+    ∷ is "1^-1074" (done 1)
+    ∷ is "1^-1075" (done 0)
+    ∷ is "3^-1075" (done 2)
+    ∷ is "1FFFFFFFFFFFFF^971" (done 0x7fefffffffffffff)
+    ∷ is "1FFFFFFFFFFFFF.1^971" (refused 11 0)
+    ∷ record { name = "2/2/16, mark A: 1.0AA"; holds = reads binary64 (format 2 2 16) (options 46 65) (bytes "1.0AA") (done 0x4090000000000000) }
+    ∷ record { name = "2/2/10: 12"; holds = reads binary64 (format 2 2 10) (options 46 94) (bytes "12") (refused 9 1) }
+    ∷ record { name = "32-bit largest"; holds = reads binary32 (format 16 2 10) (options 46 94) (bytes "F.FFFFF^124") (done 0x7f7fffff) }
+    ∷ record { name = "mark B, a digit of the radix"; holds = reads binary64 (format 16 2 10) (options 46 66) (bytes "1") (refused 3 0) }
+    ∷ []
+
+-- long texts: a settling digit far behind, an exponent that undoes the fraction, and the limit of 4,096 bytes
+abbrev read : String → List ℕ → Answer ℕ → Example
+read name t wanted = record { name = name; holds = reads binary64 (format 16 2 10) (options 46 94) t wanted }
+
+unfoldable pub long : List Example
+long =
+    read "4,000 zeros undone by the exponent" (bytes "0." ++ (replicate 4000 48 ++ bytes "1^16004")) (done one)
+    ∷ read "4,097 bytes" (replicate 4097 48) (refused 12 0)
+    ∷ read "4,096 bytes" (replicate 4096 48) (done 0)
+    ∷ read "a tie settled behind 4,000 zeros" (bytes "1.00000000000008" ++ (replicate 4000 48 ++ bytes "1")) (done (one + 1))
+    ∷ []

@@ -1,0 +1,27 @@
+-- The chains and records worked out by hand hold, by evaluation: a failing one's name would stand in the list. Assumes nothing.
+use mathlib.Core.Path.{_≡_, refl}
+use mathlib.Core.List.{[]}
+use lib.Count.{trailingZeros}
+use lib.Ieee.{size, span, climb, odd, units, round}
+use Rattle.lexical_util.specs.Digit.{digitByte, digitValue, digitIn, isDigit, isRadix, readOn}
+use Rattle.lexical_util.specs.Examples.{failing}
+use Rattle.lexical_write_integer_spec.specs.Digits.{digitsUpTo, digits, numeral}
+use Rattle.lexical_format.specs.Format.{pairs, findPair, pairOf, badByte, badBytes, badCounts, badBreaks, readingFormat, writingFormat}
+use Rattle.lexical_write_float_spec.specs.Value.{normal, exactDigits}
+use Rattle.lexical_write_float_spec.specs.Limit.{multipleOf, limited}
+use Rattle.lexical_write_float_spec.specs.Text.{isScientific, layoutOf, scientific, exponentText, negative, positive, text}
+use Rattle.lexical_write_float_spec.specs.Write.{limitedText, floatText, writeText}
+use Rattle.lexical_read_float_spec.specs.Parse.{run, signedExponent, parseTail, afterWhole, parse, shapeOf}
+use Rattle.lexical_read_float_spec.specs.Round.{tooLarge}
+use Rattle.lexical_read_float_spec.specs.Read.{numerator, denominator, floatOf, exponentTooLarge, exponentPlace, valueOf, readText, readFloat}
+use Rattle.lexical_rewrite_spec.specs.Chain.{chain}
+use Rattle.lexical_rewrite_spec.specs.Record.{numberFormatOf, optionsOf, recordsOf, formatsOf, recordOf}
+use Rattle.lexical_rewrite_spec.specs.Examples.{chains, records}
+
+pub chains-hold : failing chains ≡ []
+unfolding failing chains chain formatsOf recordsOf numberFormatOf optionsOf readFloat readText valueOf exponentTooLarge exponentPlace floatOf numerator denominator tooLarge shapeOf parse afterWhole parseTail signedExponent run readingFormat readOn writeText floatText limitedText text positive negative exponentText scientific layoutOf isScientific limited multipleOf exactDigits normal writingFormat badBreaks badCounts badBytes badByte pairOf findPair pairs numeral digits digitsUpTo isRadix isDigit digitIn digitValue digitByte round units odd size span climb trailingZeros
+chains-hold = refl
+
+pub records-hold : failing records ≡ []
+unfolding failing records recordOf
+records-hold = refl

@@ -1,0 +1,143 @@
+-- Document 01's starred examples, as one list against the definitions that the contracts cite: the answer and every lent byte. Definitions only.
+use Prim.Native.Nat.{ℕ, _^_, _-_}
+use Prim.Native.String.{String}
+use mathlib.Core.Bool.{Bool, true, false, _&&_}
+use mathlib.Core.List.{List, [], _∷_, _++_}
+use lib.Dec.{eqb}
+use lib.IntN.{pos}
+use lib.ListN.{length, drop, replicate}
+use lib.Ieee.{Float, binary32, binary64, round}
+use Rattle.lexical_util.specs.Answer.{Answer, done, refused, written, held}
+use Rattle.lexical_util.specs.Examples.{bytes, sameBytes, sameAnswer, Example}
+use Rattle.lexical_format.specs.declared.format.NumberFormat.{NumberFormat}
+use Rattle.lexical_format.specs.declared.options.Options.{Options}
+use Rattle.lexical_format.specs.declared.options.RoundMode.{RoundMode}
+use Rattle.lexical_format.specs.declared.options.RoundMode.the-variants.{Round, Truncate}
+use Rattle.lexical_write_float_spec.specs.Write.{writeText}
+
+-- r/base/exponent radix; mark "^", all else default
+abbrev formatWith : ℕ → ℕ → ℕ → Bool → Bool → Bool → Bool → NumberFormat
+formatWith radix base power required forbidden signed fraction = record {
+  «mantissa_radix» = radix;
+  «exponent_base» = base;
+  «exponent_radix» = power;
+  «required_exponent_notation» = required;
+  «no_exponent_notation» = forbidden;
+  «required_exponent_sign» = signed;
+  «no_exponent_without_fraction» = fraction;
+}
+
+abbrev pub format : ℕ → ℕ → ℕ → Bool → Bool → NumberFormat
+format radix base power required signed = formatWith radix base power required false signed false
+
+abbrev pub options : ℕ → ℕ → RoundMode → Bool → Options
+options least most mode trim = record {
+  «max_significant_digits» = most;
+  «min_significant_digits» = least;
+  «positive_exponent_break» = pos 0;
+  «negative_exponent_break» = pos 0;
+  «round_mode» = mode;
+  «trim_floats» = trim;
+  exponent = 94;
+  «decimal_point» = 46;
+}
+
+abbrev plain : ℕ → ℕ → ℕ → NumberFormat
+plain radix base power = format radix base power false false
+
+abbrev default : Options
+default = options 0 0 Round false
+
+abbrev trimmed : Options
+trimmed = options 0 0 Round true
+
+-- the float of num / den
+abbrev double : ℕ → ℕ → Float
+double num den = round binary64 false num den
+
+-- ---- what an example asks for
+-- the answer and the lent bytes: a text in front of what they held, or a refusal and what they held
+abbrev writes : NumberFormat → Options → Float → List ℕ → List ℕ → Bool
+writes F o x out t =
+    sameAnswer eqb (written (writeText F o x) out) (done (length t)) && sameBytes (held (writeText F o x) out) (t ++ drop (length t) out)
+
+abbrev refuses : NumberFormat → Options → Float → List ℕ → ℕ → Bool
+refuses F o x out n = sameAnswer eqb (written (writeText F o x) out) (refused n 0) && sameBytes (held (writeText F o x) out) out
+
+-- bytes as lent, that no text has
+abbrev lent : ℕ → List ℕ
+lent n = replicate n 7
+
+abbrev is : String → NumberFormat → Options → Float → String → Example
+is name F o x t = record { name = name; holds = writes F o x (lent 20) (bytes t) }
+
+unfoldable pub starred : List Example
+starred =
+    is "2/2/2: 0" (plain 2 2 2) default (double 0 1) "0.0"
+    ∷ is "2/2/2: 0, exponent required" (format 2 2 2 true false) default (double 0 1) "0.0^0"
+    ∷ is "2/2/2: 2^-5" (plain 2 2 2) default (double 1 (2 ^ 5)) "0.00001"
+    ∷ is "2/2/2: 2^-6" (plain 2 2 2) default (double 1 (2 ^ 6)) "1.0^-110"
+    ∷ is "16/16/16: 0.5" (plain 16 16 16) default (double 1 2) "0.8"
+    ∷ record { name = "16/16/16: 0.5, 2 bytes refused"; holds = refuses (plain 16 16 16) default (double 1 2) (lent 2) 8 }
+    ∷ record { name = "16/16/16: 0.5, 3 enough"; holds = writes (plain 16 16 16) default (double 1 2) (lent 3) (bytes "0.8") }
+    ∷ is "16/16/16: 512" (plain 16 16 16) default (double 512 1) "200.0"
+    ∷ is "16/16/16: 1,024" (plain 16 16 16) default (double 1024 1) "4.0^2"
+    ∷ is "16/16/16: 1,024, trim" (plain 16 16 16) trimmed (double 1024 1) "4^2"
+    ∷ is "16/16/16: 1,024, sign" (format 16 16 16 false true) default (double 1024 1) "4.0^+2"
+    ∷ is "16/2/10: 1,024" (plain 16 2 10) default (double 1024 1) "4.0^8"
+    ∷ is "16/2/10: 2^-6" (plain 16 2 10) default (double 1 (2 ^ 6)) "4.0^-8"
+    ∷ is "16/4/10: 1,024" (plain 16 4 10) default (double 1024 1) "4.0^4"
+    ∷ is "32/32/10: 2^-1074" (plain 32 32 10) default (double 1 (2 ^ 1074)) "2.0^-215"
+    ∷ is "32/32/10: 512, trim" (plain 32 32 10) trimmed (double 512 1) "G0"
+    ∷ is "2/2/2: 8, least 5" (plain 2 2 2) (options 5 0 Round false) (double 8 1) "1000.0000"
+    ∷ is "2/2/2: 8, least 5, trim" (plain 2 2 2) (options 5 0 Round true) (double 8 1) "1000"
+    ∷ is "limit, 16/16/16: 1.5, one digit, Round" (plain 16 16 16) (options 0 1 Round false) (double 3 2) "2.0"
+    ∷ is "limit, 16/16/16: 1.5, one digit, Truncate" (plain 16 16 16) (options 0 1 Truncate false) (double 3 2) "1.0"
+    ∷ is "limit, 2/2/2: 1.75, two" (plain 2 2 2) (options 0 2 Round false) (double 7 4) "10.0"
+    ∷ []
+
+-- document 01's examples of writing that have no star, and the settled ones of zero under a least count and of a limit that passes the range
+unfoldable pub unstarred : List Example
+unstarred =
+    is "16/2/10: 32-bit largest" (plain 16 2 10) default (round binary32 false (2 ^ 128 - 2 ^ 104) 1) "F.FFFFF^124"
+    ∷ is "2/2/2: 0, least 5" (plain 2 2 2) (options 5 0 Round false) (double 0 1) "0.00000"
+    ∷ is "2/2/2: 0, least 5, exponent required" (format 2 2 2 true false) (options 5 0 Round false) (double 0 1) "0.0000^0"
+    ∷ is "limit, 16/16/16: 2.5, one digit, a tie to the even one" (plain 16 16 16) (options 0 1 Round false) (double 5 2) "2.0"
+    ∷ is "limit, 16/2/10: 64-bit largest, one digit" (plain 16 2 10) (options 0 1 Round false) (double (2 ^ 1024 - 2 ^ 971) 1) "1.0^1024"
+    ∷ record { name = "least 1,201"; holds = refuses (plain 2 2 2) (options 1201 0 Round false) (double 0 1) (lent 20) 5 }
+    ∷ record { name = "-0"; holds = refuses (plain 2 2 2) default (round binary64 true 0 1) (lent 20) 7 }
+    ∷ []
+
+-- the examples of docs/FORMAT.md that stand in neither list
+unfoldable pub further : List Example
+further =
+    is "2/2/2: 0, exponent required, sign" (format 2 2 2 true true) default (double 0 1) "0.0^+0"
+    ∷ is "2/2/2: 0, trim" (plain 2 2 2) trimmed (double 0 1) "0"
+    ∷ is "2/2/2: 0, trim, exponent required" (format 2 2 2 true false) trimmed (double 0 1) "0^0"
+    ∷ is "2/2/2: 0, trim, exponent required, least 5" (format 2 2 2 true false) (options 5 0 Round true) (double 0 1) "0^0"
+    ∷ is "16/16/16: 2^-5" (plain 16 16 16) default (double 1 (2 ^ 5)) "0.08"
+    ∷ is "16/16/16: 1,024, trim, least 3" (plain 16 16 16) (options 3 0 Round true) (double 1024 1) "4^2"
+    ∷ is "16/16/16: 1,024, trim, no exponent without fraction" (formatWith 16 16 16 false false false true) trimmed (double 1024 1) "4.0^2"
+    ∷ is "16/16/16: 1,024, trim, no exponent without fraction, least 3" (formatWith 16 16 16 false false false true) (options 3 0 Round true) (double 1024 1) "4.00^2"
+    ∷ is "16/16/16: 1,024, least 3" (plain 16 16 16) (options 3 0 Round false) (double 1024 1) "4.00^2"
+    ∷ is "16/2/10: 6,144" (plain 16 2 10) default (double 6144 1) "1.8^12"
+    ∷ is "16/2/10: 6,144, least 4" (plain 16 2 10) (options 4 0 Round false) (double 6144 1) "1.800^12"
+    ∷ is "16/2/10: 6,144, least 4, trim" (plain 16 2 10) (options 4 0 Round true) (double 6144 1) "1.800^12"
+    ∷ is "16/16/16: 1.5, least 4" (plain 16 16 16) (options 4 0 Round false) (double 3 2) "1.800"
+    ∷ is "16/16/16: 2^-5, least 4" (plain 16 16 16) (options 4 0 Round false) (double 1 (2 ^ 5)) "0.08000"
+    ∷ is "limit, 16/16/16: 2.5, one digit, Truncate" (plain 16 16 16) (options 0 1 Truncate false) (double 5 2) "2.0"
+    ∷ []
+
+-- the longest text, with a digit limit and without: 2,275 bytes are enough, and one less is refused
+abbrev longestIn : String → ℕ → ℕ → Answer ℕ → Example
+longestIn name most n wanted =
+    let t = writeText (formatWith 2 2 2 false true false false) (options 1200 most Round false) (double 1 (2 ^ 1074)) in
+    record { name = name; holds = sameAnswer eqb (written t (lent n)) wanted }
+
+unfoldable pub longest : List Example
+longest =
+    longestIn "2,275 bytes" 0 2275 (done 2275)
+    ∷ longestIn "2,274 bytes" 0 2274 (refused 8 0)
+    ∷ longestIn "2,275 bytes, limit 1,200" 1200 2275 (done 2275)
+    ∷ longestIn "2,274 bytes, limit 1,200" 1200 2274 (refused 8 0)
+    ∷ []

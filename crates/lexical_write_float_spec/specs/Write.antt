@@ -1,0 +1,46 @@
+-- What a call to write a float is asked for: document 01, "Write a float". Its answer and the lent bytes are `written` and `held` of it,
+-- at both widths. Definitions only.
+use Prim.Native.Nat.{ℕ, _≤_}
+use mathlib.Core.Path.{_≡_}
+use mathlib.Core.Bool.{true, false}
+use mathlib.Core.List.{List}
+use lib.IntN.{ℤ}
+use lib.ListN.{length}
+use lib.Ieee.{Float, nan, inf, fin}
+use Rattle.lexical_util.specs.Answer.{Answer, done, refused, andThen}
+use Rattle.lexical_format.specs.declared.format.Pair.{Pair}
+use Rattle.lexical_format.specs.declared.format.NumberFormat.{NumberFormat}
+use Rattle.lexical_format.specs.declared.options.Options.{Options}
+use Rattle.lexical_format.specs.Format.{writingFormat}
+use Rattle.lexical_write_float_spec.specs.Limit.{limited}
+use Rattle.lexical_write_float_spec.specs.Text.{text}
+
+module _ (F : NumberFormat) (o : Options) where
+  -- the digit limit, then the layout of the result
+  unfoldable pub limitedText : Pair → ℕ → ℤ → List ℕ
+  limitedText row m e = let v = limited (o .«round_mode») (row .b) (o .«max_significant_digits») m e in text F o row (v .m) (v .e)
+
+  -- 7 not finite, or sign bit set (-0 too)
+  unfoldable pub floatText : Float → Pair → Answer (List ℕ)
+  floatText nan row = refused 7 0
+  floatText (inf s) row = refused 7 0
+  floatText (fin true m e) row = refused 7 0
+  floatText (fin false m e) row = done (limitedText row m e)
+
+  -- 1 to 6, 7
+  unfoldable pub writeText : Float → Answer (List ℕ)
+  writeText x = andThen (writingFormat F o) (floatText x)
+
+-- ---- what is said of an answer besides
+-- no text passes 2,275 bytes
+abbrev pub NoLonger : Answer ℕ → Type 0
+NoLonger (done n) = n ≤ 2275
+NoLonger (refused n p) = Unit {0}
+
+-- a finite float with the sign bit clear, a format that the writer admits and bytes enough for the text are never refused
+abbrev pub NeverRefused : NumberFormat → Options → Float → List ℕ → Answer ℕ → Type 0
+NeverRefused F o nan out answer = Unit {0}
+NeverRefused F o (inf s) out answer = Unit {0}
+NeverRefused F o (fin true m e) out answer = Unit {0}
+NeverRefused F o (fin false m e) out answer =
+    (row : Pair) → writingFormat F o ≡ done row → length (limitedText F o row m e) ≤ length out → answer ≡ done (length (limitedText F o row m e))

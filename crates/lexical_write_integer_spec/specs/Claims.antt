@@ -1,0 +1,34 @@
+-- What the laws of a number's digits, and of its last ones, say. Statements only; `DigitsClaims` proves them.
+use Prim.Native.Nat.{ℕ, _+_, _-_, _/_, _^_, _<_, max}
+use mathlib.Core.Path.{_≡_}
+use mathlib.Core.Logic.{_≢_}
+use mathlib.Core.List.{_++_}
+use lib.ListN.{length, getD}
+use lib.Ieee.{size}
+use Rattle.lexical_util.specs.Digit.{AreDigits, digitsValue}
+use Rattle.lexical_write_integer_spec.specs.Digits.{digits, numeral}
+use Rattle.lexical_write_integer_spec.specs.Write.{lastNumeral}
+
+-- read back, the digits are the number
+abbrev pub ReadBack : Type 0
+ReadBack = (radix x : ℕ) → 1 < radix → digitsValue radix (digits radix x) ≡ x
+
+-- each is a digit of the radix
+abbrev pub EachBelow : Type 0
+EachBelow = (radix x : ℕ) → 1 < radix → AreDigits radix (digits radix x)
+
+-- no leading zeros
+abbrev pub NoLeadingZero : Type 0
+NoLeadingZero = (radix x : ℕ) → 1 < radix → 0 < x → getD (digits radix x) 0 0 ≢ 0
+
+-- in radix 2 ^ b there are ceil (significant bits / b), and at least one
+abbrev pub DigitCount : Type 0
+DigitCount = (b x : ℕ) → 0 < b → length (digits (2 ^ b) x) ≡ max 1 ((size x + b - 1) / b)
+
+-- the last digits are those of the quotient, and then more
+abbrev pub LastJoin : Type 0
+LastJoin = (radix j k x : ℕ) → lastNumeral radix (j + k) x ≡ lastNumeral radix j (x / radix ^ k) ++ lastNumeral radix k x
+
+-- as many of them as there are digits are the digits
+abbrev pub LastAreAll : Type 0
+LastAreAll = (radix x : ℕ) → 1 < radix → lastNumeral radix (length (digits radix x)) x ≡ numeral radix x

@@ -1,0 +1,98 @@
+-- The sheet: document 01, "n in radix 10 without leading zeros, LF, then start, space, end, LF for each window in table order". Definitions only.
+use Prim.Native.Nat.{ℕ, zero, suc, _+_, _*_}
+use mathlib.Core.Bool.{Bool, not, cond}
+use mathlib.Core.List.{List, [], _∷_, _++_}
+use mathlib.Core.Option.{Option, none, some}
+use lib.Dec.{leb, eqb}
+use lib.ListN.{length, drop}
+use lib.Ieee.{binary64}
+use Rattle.lexical_util.specs.Answer.{Answer, done, refused, andThen, checked}
+use Rattle.lexical_util.specs.Digit.{digitIn}
+use Rattle.lexical_write_integer_spec.specs.Digits.{numeral}
+use Rattle.lexical_format.specs.declared.format.NumberFormat.{NumberFormat}
+use Rattle.lexical_format.specs.declared.options.Options.{Options}
+use Rattle.lexical_write_float_spec.specs.Write.{writeText}
+use Rattle.lexical_read_float_spec.specs.Read.{readFloat}
+use Rattle.outage_spec.specs.declared.window.Window.{Window}
+use Rattle.outage_spec.specs.Window.{Column, columns, judged, from}
+
+-- ---- the parts of a sheet
+-- the bytes before the first b, all where there is none
+unfoldable pub before : ℕ → List ℕ → List ℕ
+before b [] = []
+before b (x ∷ xs) = let more = before b xs in cond (eqb x b) [] (x ∷ more)
+
+-- there is no b
+abbrev pub lacks : ℕ → List ℕ → Bool
+lacks b l = eqb (length (before b l)) (length l)
+
+-- one digit of radix 10 more, behind those that spell a
+abbrev pub onDigit : ℕ → ℕ → Option ℕ → (ℕ → Option ℕ) → Option ℕ
+onDigit limit a none more = none
+onDigit limit a (some d) more = cond (leb (a * 10 + d) limit) (more (a * 10 + d)) none
+
+-- the digits behind those that spell a
+unfoldable pub numberOn : ℕ → ℕ → List ℕ → Option ℕ
+numberOn limit a [] = some a
+numberOn limit a (x ∷ xs) = onDigit limit a (digitIn 10 x) (λ b. numberOn limit b xs)
+
+-- a number in radix 10, at most a limit: one digit or more, and no "0" in front of others
+unfoldable pub numberIn : ℕ → List ℕ → Option ℕ
+numberIn limit [] = none
+numberIn limit (x ∷ []) = numberOn limit 0 (x ∷ [])
+numberIn limit (x ∷ y ∷ ys) = cond (eqb x 48) none (numberOn limit 0 (x ∷ y ∷ ys))
+
+-- ---- the sheet of windows
+module _ (F : NumberFormat) (o : Options) where
+  -- a row's fields, a space between them, and LF
+  abbrev pub fieldsText : List Column → Window → Answer (List ℕ)
+  fieldsText [] w = done (10 ∷ [])
+  fieldsText (c ∷ []) w = andThen (writeText F o (c w)) (λ s. done (s ++ (10 ∷ [])))
+  fieldsText (c ∷ d ∷ cs) w = let more = fieldsText (d ∷ cs) w in andThen (writeText F o (c w)) (λ s. andThen more (λ t. done (s ++ (32 ∷ t))))
+
+  unfoldable pub rowsText : List Window → Answer (List ℕ)
+  rowsText [] = done []
+  rowsText (w ∷ ws) = let more = rowsText ws in andThen (fieldsText columns w) (λ s. andThen more (λ t. done (s ++ t)))
+
+  unfoldable pub sheetOf : List Window → Answer (List ℕ)
+  sheetOf ws = andThen (rowsText ws) (λ t. done (numeral 10 (length ws) ++ (10 ∷ t)))
+
+-- ---- the windows of a sheet
+-- 15 count line wrong (no LF, not such a number, or above 400); else n
+abbrev pub orWrong : Option ℕ → Answer ℕ
+orWrong none = refused 15 0
+orWrong (some n) = done n
+
+unfoldable pub sheetCount : List ℕ → Answer ℕ
+sheetCount s = checked ((15, lacks 10 s) ∷ []) (orWrong (numberIn 400 (before 10 s)))
+
+module _ (F : NumberFormat) (o : Options) where
+  -- the start's refusal, the end's, then 14; the fields stand in a line, one space between them
+  unfoldable pub fieldsWindow : Option Window → List ℕ → List ℕ → Answer Window
+  fieldsWindow above start end =
+      andThen (readFloat binary64 F o start)
+      (λ x. andThen (from (length start + 1) (readFloat binary64 F o end))
+      (λ y. judged above (record { start = x; end = y })))
+
+  -- a line without its LF. 15: not just one space in it
+  unfoldable pub lineWindow : Option Window → List ℕ → Answer Window
+  lineWindow above line =
+      let start = before 32 line in
+      let end = drop (length start + 1) line in
+      checked ((15, lacks 32 line) ∷ (15, not (lacks 32 end)) ∷ []) (fieldsWindow above start end)
+
+  -- the line in front of a list. 15: no LF
+  unfoldable pub rowIn : Option Window → List ℕ → Answer Window
+  rowIn above l = checked ((15, lacks 10 l) ∷ []) (lineWindow above (before 10 l))
+
+  -- k rows in l, whose first byte stands at p in the sheet: the first refusal, row by row, with its place in the sheet; last 15 for extra bytes
+  unfoldable pub linesFrom : ℕ → ℕ → Option Window → List ℕ → Answer (List Window)
+  linesFrom zero p above [] = done []
+  linesFrom zero p above (x ∷ xs) = refused 15 p
+  linesFrom (suc k) p above l =
+      let u = length (before 10 l) + 1 in
+      andThen (from p (rowIn above l)) (λ w. andThen (linesFrom k (p + u) (some w) (drop u l)) (λ ws. done (w ∷ ws)))
+
+  -- the rows of a sheet, n of them, behind its count line
+  abbrev pub sheetRows : List ℕ → ℕ → Answer (List Window)
+  sheetRows s n = let p = length (before 10 s) + 1 in linesFrom n p none (drop p s)

@@ -1,0 +1,50 @@
+-- A window's columns and its checks: document 01, "Outage table and sheet" and "Table to sheet". Definitions only.
+use Prim.Native.Nat.{ℕ, _+_}
+use mathlib.Core.Bool.{Bool, false, not}
+use mathlib.Core.List.{List, [], _∷_, _++_}
+use mathlib.Core.Option.{Option}
+use lib.Ieee.{Float, nan, inf, fin, lt}
+use Rattle.lexical_util.specs.Answer.{Answer, done, refused, Check, checked}
+use Rattle.outage_spec.specs.declared.window.Window.{Window}
+use Rattle.outage_spec.specs.declared.window.CheckedWindow.{CheckedWindow}
+use Rattle.outage_spec.specs.declared.window.CheckedWindow.the-variants.{Passed, Refused}
+
+-- the columns of a table, the fields of a sheet's row: one start and one end
+abbrev pub Column : Type 0
+Column = Window → Float
+
+abbrev pub columns : List Column
+columns = (λ (w : Window). w .start) ∷ (λ (w : Window). w .end) ∷ []
+
+-- finite, with the sign bit clear
+abbrev pub isPlain : Float → Bool
+isPlain nan = false
+isPlain (inf s) = false
+isPlain (fin s m e) = not s
+
+-- 7 start, 7 end: not finite, or sign bit set (-0 too)
+abbrev pub floatChecks : List Column → Window → List Check
+floatChecks [] w = []
+floatChecks (c ∷ cs) w = (7, not (isPlain (c w))) ∷ floatChecks cs w
+
+-- 14 end below start. The window of the row above, if there is one, stands ready for checks that hold two rows against each other; there is none yet.
+abbrev pub windowChecks : Option Window → Window → List Check
+windowChecks above w = (14, lt (w .end) (w .start)) ∷ []
+
+-- a row of a sheet, whose floats have been read
+abbrev pub judged : Option Window → Window → Answer Window
+judged above w = checked (windowChecks above w) (done w)
+
+-- a row of a table
+abbrev pub tableRow : Option Window → Window → Answer Window
+tableRow above w = checked (floatChecks columns w ++ windowChecks above w) (done w)
+
+-- an answer whose places are counted from p on
+abbrev pub from : {A : Type 0} → ℕ → Answer A → Answer A
+from p (done a) = done a
+from p (refused n q) = refused n (p + q)
+
+-- document 01's number and values for each case of `CheckedWindow`
+abbrev pub ofCheckedWindow : CheckedWindow → Answer Window
+ofCheckedWindow (Passed w) = done w
+ofCheckedWindow (Refused r) = refused (r .number) (r .place)
