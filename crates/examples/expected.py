@@ -48,25 +48,6 @@ def bits_of(width, x):
     return struct.unpack(whole, struct.pack(kind, x))[0]
 
 
-def made(width, negative, m, e):
-    """The bits of the float -m * 2^e or m * 2^e, if m and e fit the width."""
-    stored, bias, whole, kind = WIDTHS[width]
-    least = 1 - bias
-    if m > 2 ** (stored + 1) or e < least or (e > least and m < 2**stored):
-        return None
-    top = 2 ** {"f64": 1024, "f32": 128}[width]
-    if m != 0 and e > 2000 or Fraction(m) * Fraction(2) ** e >= top:
-        return None
-    x = math.ldexp(m, e)
-    assert Fraction(x) == Fraction(m) * Fraction(2) ** e
-    return bits_of(width, -x if negative else x)
-
-
-def made_line(width, negative, m, e):
-    bits = made(width, negative, m, e)
-    return f"{width} {'-' if negative else ''}{m} * 2^{e} is {'none' if bits is None else f'{bits:x}'}"
-
-
 def parts_line(width, bits):
     stored, bias, whole, kind = WIDTHS[width]
     x = float_of(width, bits)
@@ -80,9 +61,7 @@ def parts_line(width, bits):
     assert m.denominator == 1
     s = math.frexp(abs(x))[1] - 1 if x != 0 else 0
     negative = math.copysign(1, x) < 0
-    line = made_line(width, negative, int(m), e)
-    assert line.endswith(f" is {bits:x}")
-    return f"{width} {bits:x}: s {s}, {line}"
+    return f"{width} {bits:x}: s {s}, {'-' if negative else ''}{m} * 2^{e}"
 
 
 F64 = (
@@ -94,13 +73,6 @@ F32 = (
     0, 1, 0x007FFFFF, 0x00800000, 0x3F800000, 0x3FC00000, 0x407FFFFF, 0x7F7FFFFF,
     0x7F800000, 0xFF800000, 0x7F800001, 0x7FC00000, 0xFFFFFFFF, 0x80000000, 0x80000001, 0xBF800000, 0xFF7FFFFF,
 )
-MADE = (
-    ("f64", 0, -1074), ("f64", 0, 0), ("f64", 1, -1075), ("f64", 2**52 - 1, -1073), ("f64", 2**52, -1073), ("f64", 2**53, -1074),
-    ("f64", 2**53 + 1, -1074), ("f64", 2**53, 970), ("f64", 2**53, 971), ("f64", 2**52, 972), ("f64", 2**52, 32767),
-    ("f64", 2**64 - 1, -32768),
-    ("f32", 0, -149), ("f32", 1, -150), ("f32", 2**23 - 1, -148), ("f32", 2**23, -148), ("f32", 2**24, -149), ("f32", 2**24 + 1, -149),
-    ("f32", 2**24, 103), ("f32", 2**24, 104), ("f32", 2**23, 105), ("f32", 2**23, 32767), ("f32", 2**52, -52),
-)
 
 
 def float_lines():
@@ -108,9 +80,6 @@ def float_lines():
         yield parts_line("f64", bits)
     for bits in F32:
         yield parts_line("f32", bits)
-    for width, m, e in MADE:
-        yield made_line(width, False, m, e)
-        yield made_line(width, True, m, e)
 
 
 ORDER = (

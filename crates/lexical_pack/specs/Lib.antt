@@ -1,3 +1,0 @@
-pub mod Pack
-pub mod Pattern
-pub mod Claims
