@@ -10,8 +10,8 @@ use borrow.Author.Tests.{ltb-true, ltb-false}
 use lib.Dec.{ltb, eqb}
 use lib.Pow.{pow-pos}
 use Rattle.lexical_util.specs.Digit.{AreDigits, readOn, digitsValue}
-use Rattle.lexical_round.specs.Guard.{Leading}
-use Rattle.lexical_round.proofs.GuardLaws.{longer}
+use Rattle.lexical_read_float.specs.Guard.{Leading}
+use Rattle.lexical_read_float.proofs.GuardLaws.{longer}
 use Rattle.lexical_read_float.specs.declared.kept.Kept.{Kept}
 use Rattle.lexical_read_float.specs.Kept.{full, IsFull, Holds, empty, keepDigit, keepDigits}
 

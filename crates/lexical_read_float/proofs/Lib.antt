@@ -1,3 +1,7 @@
+pub mod GuardLaws
+pub mod DropLaws
+pub mod PatternLaws
+pub mod LeadingLaws
 pub mod DigitRunLaws
 pub mod KeepLaws
 pub mod KeptLaws

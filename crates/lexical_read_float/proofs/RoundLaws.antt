@@ -16,9 +16,9 @@ use Rattle.lexical_float.specs.declared.encoding.Encoding.{Encoding}
 use Rattle.lexical_float.specs.Encoding.{encodingOf}
 use Rattle.lexical_float.proofs.EncodingLaws.{hidden-few}
 use Rattle.lexical_read_float_spec.specs.Read.{floatOf}
-use Rattle.lexical_round.specs.Guard.{Leading, isClear, guarded, upward, raised}
-use Rattle.lexical_round.specs.Pattern.{lift, belowGuard, pattern, ceiling, infinity}
-use Rattle.lexical_round.proofs.RoundLaws.{pattern-le, leading-float, shifted-float, zero-float}
+use Rattle.lexical_read_float.specs.Guard.{Leading, isClear, guarded, upward, raised}
+use Rattle.lexical_read_float.specs.Pattern.{lift, belowGuard, pattern, ceiling, infinity}
+use Rattle.lexical_read_float.proofs.LeadingLaws.{pattern-le, leading-float, shifted-float, zero-float}
 use Rattle.lexical_read_float.specs.declared.kept.Kept.{Kept}
 use Rattle.lexical_read_float.specs.declared.round.Rounded.{Rounded}
 use Rattle.lexical_read_float.specs.declared.round.Rounded.the-variants.{Bits, TooLarge}

@@ -3,7 +3,7 @@ use Prim.Native.Nat.{ℕ, _+_, _*_, _^_, _≤_, _<_}
 use mathlib.Core.Bool.{true, cond, _&&_}
 use mathlib.Core.List.{List, [], _∷_}
 use lib.Dec.{ltb, eqb}
-use Rattle.lexical_round.specs.Guard.{Leading}
+use Rattle.lexical_read_float.specs.Guard.{Leading}
 use Rattle.lexical_read_float.specs.declared.kept.Kept.{Kept}
 
 -- bits below this have room for a digit of five bits more

@@ -1,3 +1,5 @@
+pub mod Guard
+pub mod Pattern
 pub mod Kept
 pub mod Digits
 pub mod Scan

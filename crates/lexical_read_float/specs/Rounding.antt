@@ -4,7 +4,7 @@ use mathlib.Core.Bool.{Bool, cond}
 use lib.Dec.{leb}
 use lib.Ieee.{Float, Format, ofBits}
 use Rattle.lexical_util.specs.Answer.{Answer, done, refused}
-use Rattle.lexical_round.specs.Pattern.{pattern, ceiling, infinity}
+use Rattle.lexical_read_float.specs.Pattern.{pattern, ceiling, infinity}
 use Rattle.lexical_read_float.specs.declared.round.Rounded.{Rounded}
 use Rattle.lexical_read_float.specs.declared.round.Rounded.the-variants.{Bits, TooLarge}
 

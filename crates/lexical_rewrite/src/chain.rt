@@ -10,6 +10,7 @@ ghost use Rattle.lexical_rewrite_spec.specs.Chain.{atStation, chainOf};
 ghost use Rattle.lexical_rewrite_spec.specs.Demand.{NeverLost};
 ghost use Rattle.lexical_rewrite.specs.Answer.{ofRewritten, ofChained};
 ghost use Rattle.lexical_rewrite.specs.Code.{onFrom, sourceAt};
+use crate::record::format_of;
 use crate::rewrite::Rewritten;
 use crate::rewrite::rewrite_f32;
 use crate::rewrite::rewrite_f64;
@@ -85,7 +86,7 @@ fn format_at(bytes: &[u8], at: usize) -> TextFormat
     requires { ⌜ at ≤ length (now bytes) ⌝ }
     ensures { λ r. ⌜ r ≡ recordFormat (drop at (now (bytes .entry))) ⌝ }
 {
-    lexical_record::format_of(&bytes[at..])
+    format_of(&bytes[at..])
 }
 
 // The format of the text that the station of the record at a place reads: that of the station before it.

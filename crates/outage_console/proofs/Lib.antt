@@ -1,2 +1,3 @@
+pub mod ArgumentLaws
 pub mod ScreenLaws
 pub mod WeekLaws

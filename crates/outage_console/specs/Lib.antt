@@ -1,3 +1,4 @@
+pub mod Argument
 pub mod Screen
 pub mod Week
 pub mod Code

@@ -6,11 +6,11 @@ ghost use Rattle.lexical_util.specs.Answer.{written, held, ofWritten};
 ghost use Rattle.outage_console.specs.Screen.{printing, reading, rewriting, screen, shown, SameRows};
 ghost use Rattle.outage_console.specs.Code.{putCount, putBytes};
 ghost use Rattle.outage_console.specs.Week.{SheetReturns, TableReturns};
+use crate::argument::sheet_in;
 use crate::refusal::put_refusal;
 use lexical_rewrite_spec::TextFormat;
 use lexical_util::Refusal;
 use lexical_util::Written;
-use outage_argument::sheet_in;
 use outage_sheet::sheet_to_table;
 use outage_table::table_to_sheet;
 

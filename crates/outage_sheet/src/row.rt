@@ -3,15 +3,15 @@ ghost use mathlib.Core.Path.{_≡_};
 ghost use mathlib.Core.Option.{none};
 ghost use Prim.Native.Nat.{_+_, _≤_};
 ghost use lib.ListN.{length};
-ghost use Rattle.outage_spec.specs.Window.{ofCheckedWindow};
+ghost use Rattle.outage.specs.Answer.{ofCheckedWindow};
 ghost use Rattle.outage_spec.specs.Sheet.{before, fieldsWindow, lineWindow, rowIn};
 use lexical_format::NumberFormat;
 use lexical_format::Options;
 use lexical_read_float::ReadF64;
 use lexical_read_float::read_f64;
 use lexical_util::Refusal;
-use outage_line::find;
-use outage_spec::CheckedWindow;
+use outage::CheckedWindow;
+use outage::find;
 use outage_spec::Window;
 
 // The start's refusal, the end's, then 14.
@@ -26,7 +26,7 @@ fn fields_window(start: &[u8], end: &[u8], format: NumberFormat, options: Option
                 number: refusal.number,
                 place: start.len() + 1 + refusal.place,
             }),
-            ReadF64::Float(y) => outage_spec::check_window(Window { start: x, end: y }),
+            ReadF64::Float(y) => outage::check_window(Window { start: x, end: y }),
         },
     }
 }

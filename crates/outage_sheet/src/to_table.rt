@@ -18,10 +18,10 @@ use lexical_format::ReadingCheck;
 use lexical_format::check_reading;
 use lexical_util::Refusal;
 use lexical_util::Written;
-use outage_line::Number;
-use outage_line::find;
-use outage_line::read_number;
-use outage_spec::CheckedWindow;
+use outage::CheckedWindow;
+use outage::Number;
+use outage::find;
+use outage::read_number;
 
 // The rows from a place on, n of them, into a table whose header stands; last 15 for extra bytes.
 fn read_rows(

@@ -6,8 +6,6 @@ use mathlib.Core.Option.{Option}
 use lib.Ieee.{Float, nan, inf, fin, lt}
 use Rattle.lexical_util.specs.Answer.{Answer, done, refused, Check, checked}
 use Rattle.outage_spec.specs.declared.window.Window.{Window}
-use Rattle.outage_spec.specs.declared.window.CheckedWindow.{CheckedWindow}
-use Rattle.outage_spec.specs.declared.window.CheckedWindow.the-variants.{Passed, Refused}
 
 -- the columns of a table, the fields of a sheet's row: one start and one end
 abbrev pub Column : Type 0
@@ -43,8 +41,3 @@ tableRow above w = checked (floatChecks columns w ++ windowChecks above w) (done
 abbrev pub from : {A : Type 0} → ℕ → Answer A → Answer A
 from p (done a) = done a
 from p (refused n q) = refused n (p + q)
-
--- document 01's number and values for each case of `CheckedWindow`
-abbrev pub ofCheckedWindow : CheckedWindow → Answer Window
-ofCheckedWindow (Passed w) = done w
-ofCheckedWindow (Refused r) = refused (r .number) (r .place)

@@ -1,30 +1,5 @@
 // A window, by value between table, sheet and checks: document 01, "Outage table and sheet".
-ghost use mathlib.Core.Path.{_≡_};
-ghost use mathlib.Core.Option.{none};
-ghost use Rattle.outage_spec.specs.Window.{judged, ofCheckedWindow};
-use lexical_float::less_f64;
-use lexical_util::Refusal;
-
 pub struct Window {
     pub start: f64,
     pub end: f64,
-}
-
-// A window that passed, or a refusal.
-pub enum CheckedWindow {
-    Passed(Window),
-    Refused(Refusal),
-}
-
-// 14: the end below the start, by value.
-pub fn check_window(window: Window) -> CheckedWindow
-    ensures { λ r. ⌜ ofCheckedWindow r ≡ judged none window ⌝ }
-{
-    if less_f64(window.end, window.start) {
-        return CheckedWindow::Refused(Refusal {
-            number: 14,
-            place: 0,
-        });
-    }
-    CheckedWindow::Passed(window)
 }

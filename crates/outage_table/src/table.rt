@@ -2,12 +2,12 @@
 ghost use mathlib.Core.Path.{_≡_};
 ghost use Prim.Native.Nat.{_≤_, _<_};
 ghost use lib.ListN.{length};
-ghost use Rattle.outage_spec.specs.Window.{ofCheckedWindow};
+ghost use Rattle.outage.specs.Answer.{ofCheckedWindow};
 ghost use Rattle.outage_spec.specs.Table.{tableSize, tableCount, rowAt, rowsFrom};
 ghost use Rattle.outage_table.specs.Count.{ofCount, AreRows};
 use crate::word::word_at;
 use lexical_util::Refusal;
-use outage_spec::CheckedWindow;
+use outage::CheckedWindow;
 use outage_spec::Window;
 
 // The count of a table's rows, or 13.
@@ -65,7 +65,7 @@ pub(crate) fn row_at(table: &[u8], n: usize, i: usize) -> CheckedWindow
         start: f64::from_bits(start),
         end: f64::from_bits(end),
     };
-    match outage_spec::check_window(window) {
+    match outage::check_window(window) {
         CheckedWindow::Passed(passed) => CheckedWindow::Passed(passed),
         CheckedWindow::Refused(refusal) => {
             let number = refusal.number;

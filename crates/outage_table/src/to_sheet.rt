@@ -26,7 +26,7 @@ use lexical_format::WritingCheck;
 use lexical_util::Refusal;
 use lexical_util::Written;
 use lexical_write_integer::digit_count;
-use outage_spec::CheckedWindow;
+use outage::CheckedWindow;
 
 // The length of all rows, where they pass.
 fn rows_length(table: &[u8], n: usize, format: NumberFormat, options: Options) -> Written

@@ -5,8 +5,8 @@ use lexical_rewrite_spec::TextFormat;
 use libc::STDERR_FILENO;
 use libc::STDIN_FILENO;
 use libc::STDOUT_FILENO;
-use outage_argument::Argument;
-use outage_argument::read_format;
+use outage_console::Argument;
+use outage_console::read_format;
 
 // All of standard input, up to the longest sheet that is read and one byte more, so that a longer input is seen.
 fn read(sheet: &mut [u8; 3277605]) -> usize

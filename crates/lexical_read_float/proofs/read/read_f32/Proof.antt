@@ -5,7 +5,7 @@ use native.Mathlib.Omega.{arith}
 use borrow.Author.Needs.{needs}
 use lib.Ieee.{binary32}
 use Rattle.lexical_float.proofs.PartsLaws.{tested-bits}
-use Rattle.lexical_round.specs.Pattern.{infinity}
+use Rattle.lexical_read_float.specs.Pattern.{infinity}
 use Rattle.lexical_read_float.proofs.TextLaws.{passed, said, said-refused}
 use Rattle.lexical_read_float.specs.Bits.{AreFinite}
 use Rattle.lexical_read_float.proofs.read.read_f32.Tie as tie

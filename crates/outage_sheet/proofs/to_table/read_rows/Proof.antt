@@ -8,7 +8,7 @@ use borrow.Author.Needs.{needs}
 use lib.ListN.{length, drop}
 use Rattle.lexical_util.specs.Answer.{Answer, done, refused}
 use Rattle.outage_spec.specs.declared.window.Window.{Window}
-use Rattle.outage_spec.specs.Window.{ofCheckedWindow}
+use Rattle.outage.specs.Answer.{ofCheckedWindow}
 use Rattle.outage_spec.specs.Sheet.{before, rowIn}
 use Rattle.outage_sheet.specs.Fill.{Stored, putWindow}
 use Rattle.outage_sheet.proofs.RowLaws.{Within, end-there, row-there, row-known, row-ends}

@@ -3,7 +3,7 @@ use Prim.Native.Nat.{_+_, _-_, _≤_}
 use mathlib.Core.Path.{_≡_, sym, ap, _∙_, subst}
 use native.Mathlib.Omega.{arith}
 use borrow.Author.Needs.{needs}
-use Rattle.outage_spec.specs.Window.{ofCheckedWindow}
+use Rattle.outage.specs.Answer.{ofCheckedWindow}
 use Rattle.outage_spec.specs.Table.{rowsFrom}
 use Rattle.outage_table.specs.declared.table.Rows.{Rows}
 use Rattle.outage_table.specs.declared.table.Rows.the-variants.{Passed, Refused}

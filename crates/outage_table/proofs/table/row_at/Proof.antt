@@ -8,7 +8,7 @@ use borrow.Author.Needs.{needs}
 use lib.Dec.{T}
 use lib.Ieee.{binary64, top, nanBits}
 use Rattle.lexical_float.proofs.PartsLaws.{tested-bits}
-use Rattle.outage_spec.specs.Window.{ofCheckedWindow}
+use Rattle.outage.specs.Answer.{ofCheckedWindow}
 use Rattle.outage_table.proofs.TableLaws.{start-bad, end-bad, both-plain, both-refused}
 use Rattle.outage_table.proofs.table.row_at.Statement.{statement}
 use Rattle.outage_table.proofs.table.row_at.Tie as tie

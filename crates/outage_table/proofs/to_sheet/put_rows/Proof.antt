@@ -4,7 +4,7 @@ use mathlib.Core.Path.{_≡_, sym, ap, _∙_}
 use native.Mathlib.Omega.{arith}
 use borrow.Author.Needs.{needs}
 use Rattle.lexical_util.specs.Answer.{done}
-use Rattle.outage_spec.specs.Window.{ofCheckedWindow}
+use Rattle.outage.specs.Answer.{ofCheckedWindow}
 use Rattle.outage_spec.specs.Table.{rowAt, rowsFrom}
 use Rattle.outage_table.specs.Text.{found}
 use Rattle.outage_table.proofs.RowsLaws.{row-texts, rows-more, rows-stop, rows-end, Going, going-start, going-dead, going-room, going-more, going-end}

@@ -5,7 +5,7 @@ use native.Mathlib.Omega.{arith}
 use borrow.Author.Needs.{needs}
 use lib.ListN.{length}
 use Rattle.lexical_util.proofs.AnswerLaws.{done-same, refused-done}
-use Rattle.outage_spec.specs.Window.{ofCheckedWindow}
+use Rattle.outage.specs.Answer.{ofCheckedWindow}
 use Rattle.outage_spec.specs.Table.{rowAt, rowsFrom}
 use Rattle.lexical_util.specs.Answer.{done}
 use Rattle.outage_table.proofs.RowsLaws.{row-texts, rows-more, rows-stop, rows-end, lengthAfter, length-more, length-none, length-all}

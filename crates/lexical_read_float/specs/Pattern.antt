@@ -1,0 +1,28 @@
+-- The bit pattern of a rounded number, from its leading bits. The value is those bits and what is below them, times 2 ^ up / 2 ^ down. Definitions only.
+use Prim.Native.Nat.{ℕ, _+_, _-_, _*_, _/_, _^_}
+use mathlib.Core.Bool.{Bool}
+use lib.Ieee.{Format, prec, low, size, hid, ones}
+use Rattle.lexical_read_float.specs.Guard.{isClear, guarded, raised}
+
+-- how far the last bit that the width keeps stands above its least value
+unfoldable pub lift : Format → ℕ → ℕ → ℕ → ℕ
+lift f bits up down = size bits + (up + low f) - down - prec f
+
+-- how many of the bits stand below the guard bit
+unfoldable pub belowGuard : Format → ℕ → ℕ → ℕ → ℕ
+belowGuard f bits up down = down + lift f bits up down - (up + low f + 1)
+
+-- the sum of the exponent's field and the bits kept, which carries into the field where rounding makes one bit more
+unfoldable pub pattern : Format → ℕ → Bool → ℕ → ℕ → ℕ
+pattern f bits clear up down =
+    let count = belowGuard f bits up down in
+    lift f bits up down * hid f + guarded (bits / 2 ^ count) (isClear clear bits count)
+
+-- the same rounded up: it reaches the infinity's exactly where the value is above the largest finite float
+unfoldable pub ceiling : Format → ℕ → Bool → ℕ → ℕ → ℕ
+ceiling f bits clear up down =
+    let count = belowGuard f bits up down in
+    lift f bits up down * hid f + raised (bits / 2 ^ count) (isClear clear bits count)
+
+abbrev pub infinity : Format → ℕ
+infinity f = ones f * hid f

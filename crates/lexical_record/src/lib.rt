@@ -1,4 +1,0 @@
-// A format from its record of bytes, in which a chain is given its stations.
-pub mod record;
-
-pub use record::format_of;

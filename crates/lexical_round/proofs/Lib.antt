@@ -1,4 +1,0 @@
-pub mod GuardLaws
-pub mod DropLaws
-pub mod PatternLaws
-pub mod RoundLaws
