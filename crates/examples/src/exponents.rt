@@ -1,19 +1,19 @@
 // The three exponents: s scaled to a digit's place and to powers of the base, for each pair's bits; and what else the scaling functions make of them.
 use crate::print;
-use lexical_util::BaseExponent;
-use lexical_util::BitExponent;
-use lexical_util::DigitExponent;
-use lexical_util::base_exponent;
-use lexical_util::calculate_shl;
-use lexical_util::digit_exponent;
-use lexical_util::digits_in_bits;
-use lexical_util::height_above;
-use lexical_util::is_below;
-use lexical_util::places_before_point;
-use lexical_util::powers_in_bits;
-use lexical_util::raised;
-use lexical_util::unsigned_abs;
-use lexical_util::zeros_behind_point;
+use lexical_exponent::BaseExponent;
+use lexical_exponent::BitExponent;
+use lexical_exponent::DigitExponent;
+use lexical_exponent::base_exponent;
+use lexical_exponent::calculate_shl;
+use lexical_exponent::digit_exponent;
+use lexical_exponent::digits_in_bits;
+use lexical_exponent::height_above;
+use lexical_exponent::is_below;
+use lexical_exponent::places_before_point;
+use lexical_exponent::powers_in_bits;
+use lexical_exponent::raised;
+use lexical_exponent::unsigned_abs;
+use lexical_exponent::zeros_behind_point;
 
 // `s <s>, b <b>, c <c>: p <p>, <sign><magnitude>`
 fn scaled_line(s: i32, b: u32, c: u32) {
@@ -96,7 +96,7 @@ fn height_line(e: i32, d: i32) {
 fn bits_line(value: u64) {
     print::number(value);
     print::text(b" has ");
-    print::number(lexical_util::significant_bits(value) as u64);
+    print::number(lexical_exponent::significant_bits(value) as u64);
     print::text(b" bits\n");
 }
 

@@ -1,7 +1,7 @@
 // Floats at the edges of each width: their parts.
 use crate::print;
+use lexical_exponent::Magnitude;
 use lexical_float::Parts;
-use lexical_util::Magnitude;
 
 // The float with these bits, any NaN where they are a NaN's.
 pub(crate) fn f64_of(bits: u64) -> f64 {
@@ -27,7 +27,7 @@ fn print_magnitude(value: Magnitude) {
 // s, and the parts: `s <s>, <sign><mantissa> * 2^<exponent>`.
 fn finite_line(negative: bool, value: Magnitude) {
     print::text(b"s ");
-    print::signed(lexical_util::sci_exp(value).0);
+    print::signed(lexical_exponent::sci_exp(value).0);
     print::text(b", ");
     if negative {
         print::text(b"-");

@@ -15,7 +15,7 @@ pub(crate) fn signed(n: i32) {
     if n < 0 {
         text(b"-");
     }
-    number(lexical_util::unsigned_abs(n) as u64);
+    number(lexical_exponent::unsigned_abs(n) as u64);
 }
 
 pub(crate) fn hex(n: u64) {

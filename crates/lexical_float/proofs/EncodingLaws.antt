@@ -13,11 +13,11 @@ use lib.Ieee.{Format, binary32, binary64, prec, emax, low, hid, ones, top, minus
 use mir.Syntax.{w32}
 use mir.Val.{SFits, toZ, ofZ}
 use Rattle.lexical_float.specs.declared.encoding.Encoding.{Encoding}
-use Rattle.lexical_util.specs.declared.exponent.Magnitude.{Magnitude}
+use Rattle.lexical_exponent.specs.declared.exponent.Magnitude.{Magnitude}
 use Rattle.lexical_float.specs.declared.num.Parts.the-variants.{Plain, Negative, Special}
 use Rattle.lexical_float.specs.Encoding.{encodingOf, bitsOf}
 use Rattle.lexical_float.specs.Parts.{magnitudeOf, partsOf}
-use Rattle.lexical_util.proofs.DifferenceLaws.{difference-fits, difference-is}
+use Rattle.lexical_exponent.proofs.DifferenceLaws.{difference-fits, difference-is}
 use Rattle.lexical_float.proofs.PartsLaws.{signed, finite-below, magnitude-bits, parts-bits, special-bits, sign-and-rest}
 
 -- what is known of the two widths' numbers

@@ -15,7 +15,7 @@ use lib.Ieee.Fits.{and-l, and-r, down-pos, round-fits}
 use lib.Ieee.Nearest.{div-same}
 use lib.Ieee.Positive.{num, den, den-pos}
 use lib.Ieee.Scale.{overflow, finite}
-use Rattle.lexical_util.proofs.PowerLaws.{power-le}
+use Rattle.lexical_exponent.proofs.PowerLaws.{power-le}
 
 -- ---- a / c and b / l are both x / u
 pub same-fraction : (x u a c b l : ℕ) → 0 < u → x * c ≡ a * u → x * l ≡ b * u → a * l ≡ b * c

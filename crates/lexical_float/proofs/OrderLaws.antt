@@ -14,7 +14,7 @@ use lib.Ieee.Compare.{differs-from-itself}
 use lib.Ieee.Exact.{HasValue}
 use lib.Ieee.Fits.{down-pos, inf-fits}
 use Rattle.lexical_float.specs.Encoding.{bitsOf}
-use Rattle.lexical_util.proofs.DifferenceLaws.{by-larger}
+use Rattle.lexical_exponent.proofs.DifferenceLaws.{by-larger}
 use Rattle.lexical_float.proofs.PartsLaws as parts
 use Rattle.lexical_float.proofs.PartsLaws.{mantissaBits, units-value}
 

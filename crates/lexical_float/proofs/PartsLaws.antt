@@ -15,14 +15,14 @@ use lib.Ieee.Compare.{differs-from-itself, nan-differs}
 use lib.Ieee.Digits.{minus-val}
 use lib.Ieee.Exact.{HasValue, odd-sign}
 use lib.Ieee.Scale.{finite}
-use Rattle.lexical_util.specs.declared.exponent.Magnitude.{Magnitude}
+use Rattle.lexical_exponent.specs.declared.exponent.Magnitude.{Magnitude}
 use Rattle.lexical_float.specs.declared.num.Parts.{Parts}
 use Rattle.lexical_float.specs.declared.num.Parts.the-variants.{Plain, Negative, Special}
 use Rattle.lexical_float.specs.Fields.{mantissa, exponent}
 use Rattle.lexical_float.specs.Encoding.{bitsOf}
 use Rattle.lexical_float.specs.Parts.{magnitudeOf, partsOf, IsValue}
 use Rattle.lexical_float.specs.Claims.{PartsAreTheValue}
-use Rattle.lexical_util.proofs.DifferenceLaws.{by-larger, minus-ge, minus-lt}
+use Rattle.lexical_exponent.proofs.DifferenceLaws.{by-larger, minus-ge, minus-lt}
 use Rattle.lexical_float.proofs.FloatLaws.{same-fraction}
 
 -- ---- a bit pattern: the sign, and the bits n below it

@@ -9,7 +9,7 @@ use lib.Ieee.{Format, binary32, binary64, ofBits}
 use Rattle.lexical_util.specs.Examples.{Example}
 use Rattle.lexical_float.specs.declared.num.Parts.{Parts}
 use Rattle.lexical_float.specs.declared.num.Parts.the-variants.{Plain, Negative, Special}
-use Rattle.lexical_util.specs.Exponent.{scale}
+use Rattle.lexical_exponent.specs.Exponent.{scale}
 use Rattle.lexical_float.specs.Parts.{partsOf}
 
 abbrev sameInteger : ℤ → ℤ → Bool

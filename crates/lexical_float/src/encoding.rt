@@ -5,8 +5,8 @@ ghost use lib.Ieee.{hid, ones, top, ofBits};
 ghost use Rattle.lexical_float.specs.Encoding.{formatOf, encodingOf};
 ghost use Rattle.lexical_float.specs.Parts.{magnitudeOf, partsOf};
 use crate::num::Parts;
-use lexical_util::BitExponent;
-use lexical_util::Magnitude;
+use lexical_exponent::BitExponent;
+use lexical_exponent::Magnitude;
 
 pub enum Width {
     Binary32,

@@ -4,7 +4,7 @@ ghost use lib.Ieee.{binary32, binary64};
 ghost use Rattle.lexical_float.specs.Parts.{partsOf, IsValue};
 use crate::encoding::Width;
 use crate::encoding::parts_of_bits;
-use lexical_util::Magnitude;
+use lexical_exponent::Magnitude;
 
 // What a float is: its sign apart from its magnitude, or neither.
 pub enum Parts {

@@ -13,9 +13,9 @@ use lib.ListN.{length, getD}
 use lib.Ieee.Fits.{and-l, and-r}
 use Rattle.lexical_util.specs.Answer.{done, refused, Check, checked}
 use Rattle.lexical_util.specs.Digit.{isDigit, isRadix}
-use Rattle.lexical_util.specs.Exponent.{power}
+use Rattle.lexical_exponent.specs.Exponent.{power}
 use Rattle.lexical_util.proofs.AnswerLaws.{refused-done, Passed, passed}
-use Rattle.lexical_util.proofs.ExponentLaws.{power-exact}
+use Rattle.lexical_exponent.proofs.ExponentLaws.{power-exact}
 use Rattle.lexical_format.specs.declared.format.Pair.{Pair}
 use Rattle.lexical_format.specs.declared.format.NumberFormat.{NumberFormat}
 use Rattle.lexical_format.specs.declared.options.Options.{Options}

@@ -8,10 +8,10 @@ use crate::format::NumberFormat;
 use crate::format::Pair;
 use crate::format::find_pair;
 use crate::options::Options;
-use lexical_util::BitExponent;
+use lexical_exponent::BitExponent;
+use lexical_exponent::is_below;
 use lexical_util::DigitValue;
 use lexical_util::Refusal;
-use lexical_util::is_below;
 
 // What the reader's check answers: the pair's row, or the first refusal.
 pub enum ReadingCheck {

@@ -10,8 +10,8 @@ use lib.ListN.{length}
 use lib.Ieee.{Float, Format}
 use Rattle.lexical_util.specs.Answer.{Answer, refused}
 use Rattle.lexical_util.specs.Digit.{AreDigits, digitsValue}
-use Rattle.lexical_util.specs.Exponent.{clamped, heightAbove, signed}
-use Rattle.lexical_util.proofs.ExponentLaws.{clamped-is, height-up, height-down, times-signed, signed-held}
+use Rattle.lexical_exponent.specs.Exponent.{clamped, heightAbove, signed}
+use Rattle.lexical_exponent.proofs.ExponentLaws.{clamped-is, height-up, height-down, times-signed, signed-held}
 use Rattle.lexical_format.specs.declared.format.Pair.{Pair}
 use Rattle.lexical_read_float_spec.specs.Shape.{Shape}
 use Rattle.lexical_read_float_spec.specs.Read.{magnitude, isNegative, basePower, numerator, denominator, floatOf, valueOf}

@@ -11,7 +11,7 @@ use lib.Ieee.{Format, prec, low, size}
 use lib.Ieee.Digits.{size-lt, size-le, size-reaches}
 use lib.Ieee.Nearest.{closest, closest-same}
 use lib.Ieee.Order.{drop, kept}
-use Rattle.lexical_util.proofs.PowerLaws.{size-more, size-pos}
+use Rattle.lexical_exponent.proofs.PowerLaws.{size-more, size-pos}
 use Rattle.lexical_read_float_spec.proofs.Closest.{closest-is}
 use Rattle.lexical_read_float.specs.Guard.{Leading, isClear, guarded, raised}
 use Rattle.lexical_read_float.specs.Pattern.{lift, belowGuard}

@@ -16,7 +16,7 @@ use lib.Ieee.Digits.{size-le}
 use lib.Ieee.Fits.{two, two-le-pos, reach, round-fits}
 use lib.Ieee.Order.{drop, kept}
 use lib.Ieee.Scale.{grid}
-use Rattle.lexical_util.proofs.PowerLaws.{size-more}
+use Rattle.lexical_exponent.proofs.PowerLaws.{size-more}
 use Rattle.lexical_float.proofs.FloatLaws.{bits-of-value}
 use Rattle.lexical_read_float_spec.specs.Round.{largest, tooLarge}
 use Rattle.lexical_read_float_spec.proofs.Rounded.{Rounded, rounded, kept-range}

@@ -11,7 +11,7 @@ use lib.Pow.{pow-add, pow-pos, pow-mono, shl-lt, split}
 use lib.Ieee.{Format, binary32, binary64, prec, low, size, hid, ones, ofBits}
 use lib.Ieee.Fits.{two}
 use Rattle.lexical_util.specs.Answer.{done, refused}
-use Rattle.lexical_util.proofs.PowerLaws.{size-more}
+use Rattle.lexical_exponent.proofs.PowerLaws.{size-more}
 use Rattle.lexical_float.specs.declared.encoding.Encoding.{Encoding}
 use Rattle.lexical_float.specs.Encoding.{encodingOf}
 use Rattle.lexical_float.proofs.EncodingLaws.{hidden-few}

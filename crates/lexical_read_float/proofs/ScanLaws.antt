@@ -12,7 +12,7 @@ use lib.IntN.{pos, natAbs}
 use lib.ListN.{length, drop, getD, length-drop, drop-of-length-le}
 use lib.Seq.{drop-cons, drop-drop}
 use Rattle.lexical_util.specs.Digit.{digitIn, digitsValue}
-use Rattle.lexical_util.specs.declared.exponent.DigitExponent.{DigitExponent}
+use Rattle.lexical_exponent.specs.declared.exponent.DigitExponent.{DigitExponent}
 use Rattle.lexical_read_float_spec.specs.Shape.{Grammar, Sign, unsigned, plus, minus, Tail, exponent}
 use Rattle.lexical_read_float_spec.specs.Parse.{more, run, Parsed, found, stuck, mapParsed, allDigits, exponentDigits, signedExponent, parseTail, withTail, afterWhole, oneOrMore, parse}
 use Rattle.lexical_read_float_spec.specs.Read.{isNegative, exponentPlace}

@@ -3,7 +3,7 @@ use Prim.Native.Nat.{_+_, _<_}
 use lib.IntN.{ℤ, pos}
 use lib.Ieee.{Float, Format, ofBits}
 use Rattle.lexical_util.specs.Answer.{Answer, done, refused}
-use Rattle.lexical_util.specs.Exponent.{heightAbove}
+use Rattle.lexical_exponent.specs.Exponent.{heightAbove}
 use Rattle.lexical_read_float.specs.Pattern.{infinity}
 use Rattle.lexical_read_float.specs.declared.bits.Powers.{Powers}
 use Rattle.lexical_read_float.specs.declared.bits.FloatBits.{FloatBits}

@@ -5,7 +5,7 @@ use mathlib.Core.List.{List, [], _∷_, _++_}
 use lib.Dec.{eqb}
 use lib.IntN.{pos, natAbs}
 use lib.ListN.{length}
-use Rattle.lexical_util.specs.declared.exponent.DigitExponent.{DigitExponent}
+use Rattle.lexical_exponent.specs.declared.exponent.DigitExponent.{DigitExponent}
 use Rattle.lexical_read_float_spec.specs.Shape.{Grammar, Tail, Shape}
 use Rattle.lexical_read_float_spec.specs.Parse.{Parsed, found, stuck}
 use Rattle.lexical_read_float_spec.specs.Read.{magnitude, isNegative, exponentPlace}

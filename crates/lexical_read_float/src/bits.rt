@@ -5,7 +5,7 @@ ghost use Prim.Native.Nat.{ℕ, _^_, _≤_};
 ghost use lib.IntN.{pos};
 ghost use lib.Ieee.{Format};
 ghost use Rattle.lexical_util.specs.Answer.{done};
-ghost use Rattle.lexical_util.specs.Exponent.{heightAbove};
+ghost use Rattle.lexical_exponent.specs.Exponent.{heightAbove};
 ghost use Rattle.lexical_util.specs.Digit.{AreDigits};
 ghost use Rattle.lexical_float.specs.Encoding.{formatOf};
 ghost use Rattle.lexical_format.specs.Format.{readingFormat};
@@ -20,15 +20,15 @@ use crate::round::round_kept;
 use crate::scan::Number;
 use crate::scan::Scanned;
 use crate::scan::scan;
+use lexical_exponent::BitExponent;
+use lexical_exponent::digits_in_bits;
+use lexical_exponent::height_above;
+use lexical_exponent::powers_in_bits;
 use lexical_float::Width;
 use lexical_format::NumberFormat;
 use lexical_format::Options;
 use lexical_format::Pair;
-use lexical_util::BitExponent;
 use lexical_util::Refusal;
-use lexical_util::digits_in_bits;
-use lexical_util::height_above;
-use lexical_util::powers_in_bits;
 
 pub(crate) enum FloatBits {
     Bits(u64),

@@ -7,10 +7,10 @@ ghost use Rattle.lexical_util.specs.Digit.{digitValue, digitsValue};
 ghost use Rattle.lexical_read_float.specs.Kept.{keepDigits};
 ghost use Rattle.lexical_read_float.specs.Digits.{IsValue, allZero, digitsFrom, endFrom, Filled};
 use crate::kept::Kept;
-use lexical_util::BitExponent;
-use lexical_util::DigitExponent;
-use lexical_util::digits_in_bits;
-use lexical_util::height_above;
+use lexical_exponent::BitExponent;
+use lexical_exponent::DigitExponent;
+use lexical_exponent::digits_in_bits;
+use lexical_exponent::height_above;
 
 // Digits that went into the bits: where they end, and the bits.
 struct LeadingDigits {

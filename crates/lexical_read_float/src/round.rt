@@ -9,9 +9,9 @@ ghost use Rattle.lexical_read_float.specs.Pattern.{lift};
 ghost use Rattle.lexical_read_float.specs.Kept.{full, IsFull, Holds};
 ghost use Rattle.lexical_read_float.specs.Rounding.{ofRounded, IsFinite, roundedBits};
 use crate::kept::Kept;
+use lexical_exponent::significant_bits;
 use lexical_float::Width;
 use lexical_float::encoding_of;
-use lexical_util::significant_bits;
 
 // The bits of the nearest float, or that the number is above the largest finite one.
 pub(crate) enum Rounded {

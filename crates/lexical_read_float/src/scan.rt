@@ -11,8 +11,8 @@ ghost use Rattle.lexical_read_float.specs.Scan.{grammar, beginsWith, wit
 use crate::digits::exponent_digits;
 use crate::digits::mantissa_digits;
 use crate::kept::Kept;
-use lexical_util::BaseExponent;
-use lexical_util::DigitExponent;
+use lexical_exponent::BaseExponent;
+use lexical_exponent::DigitExponent;
 
 // A text's exponent: its sign and its magnitude, or 32,768 for any above, in powers of the base, and the place of its first digit. Without one, 0 at the text's end.
 pub(crate) struct Exponent {

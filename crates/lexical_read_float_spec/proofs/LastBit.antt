@@ -10,7 +10,7 @@ use lib.Ieee.{Float, Format, binary32, binary64, prec, low, size, hid, top, ones
 use lib.Ieee.Digits.{size-le}
 use lib.Ieee.Exact.{HasValue}
 use lib.Ieee.Fits.{two, two-le-pos}
-use Rattle.lexical_util.proofs.PowerLaws.{size-more}
+use Rattle.lexical_exponent.proofs.PowerLaws.{size-more}
 use Rattle.lexical_float.proofs.FloatLaws.{bits-of-value}
 
 -- ---- the leading p digits of z * 2 ^ k

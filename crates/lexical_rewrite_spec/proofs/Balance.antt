@@ -9,7 +9,7 @@ use lib.IntN.{ℤ, pos, negsuc, negℤ, _+ℤ_, _-ℤ_, _*ℤ_, +ℤ-assoc, +ℤ
 use lib.Signed.{shrZ}
 use lib.Pow.{pow-add}
 use lib.Ieee.{up, down}
-use Rattle.lexical_util.specs.Exponent.{modulo}
+use Rattle.lexical_exponent.specs.Exponent.{modulo}
 use Rattle.lexical_write_float_spec.proofs.Integers.{floor-modulo, times-less}
 
 -- ---- sums of a negative number and a natural one

@@ -7,7 +7,7 @@ use lib.Dec.{ltb}
 use lib.IntN.{ℤ, pos, negsuc, natAbs}
 use lib.ListN.{length, take, drop, replicate, length-map}
 use Rattle.lexical_util.specs.Digit.{digitByte}
-use Rattle.lexical_util.specs.Exponent.{scale, place, modulo}
+use Rattle.lexical_exponent.specs.Exponent.{scale, place, modulo}
 use Rattle.lexical_write_integer_spec.specs.Digits.{digits, numeral}
 use Rattle.lexical_format.specs.declared.format.Pair.{Pair}
 use Rattle.lexical_format.specs.declared.format.NumberFormat.{NumberFormat}

@@ -14,7 +14,7 @@ use lib.Seq.{take-all}
 use lib.Pow.{pow-add}
 use lib.Ieee.{up, down}
 use Rattle.lexical_util.specs.Digit.{digitsValue}
-use Rattle.lexical_util.specs.Exponent.{scale, place, power, modulo}
+use Rattle.lexical_exponent.specs.Exponent.{scale, place, power, modulo}
 use Rattle.lexical_util.proofs.RadixLaws.{radix-bounds}
 use Rattle.lexical_write_integer_spec.specs.Digits.{digits}
 use Rattle.lexical_write_integer_spec.proofs.DigitsLaws.{pow-mul, radix-above, digits-value, count-pos, length-numeral}

@@ -10,7 +10,7 @@ use lib.IntN.{ℤ, natAbs}
 use lib.ListN.{length, take, drop}
 use lib.Pow.{pow-pos}
 use Rattle.lexical_util.specs.Digit.{AreDigits}
-use Rattle.lexical_util.specs.Exponent.{scale, place, modulo}
+use Rattle.lexical_exponent.specs.Exponent.{scale, place, modulo}
 use Rattle.lexical_util.proofs.RadixLaws.{radix-bounds}
 use Rattle.lexical_write_integer_spec.specs.Digits.{digits}
 use Rattle.lexical_write_integer_spec.proofs.DigitsLaws.{radix-above, digits-below, count-pos}

@@ -12,7 +12,7 @@ use lib.ListN.{length, take, drop}
 use lib.Ieee.{Float, nan, inf, fin, Format, fits}
 use lib.Ieee.Exact.{HasValue}
 use Rattle.lexical_util.specs.Answer.{Answer, done, refused, andThen}
-use Rattle.lexical_util.specs.Exponent.{scale, place, power}
+use Rattle.lexical_exponent.specs.Exponent.{scale, place, power}
 use Rattle.lexical_util.proofs.AnswerLaws.{refused-done, done-same}
 use Rattle.lexical_util.proofs.RadixLaws.{radix-bounds}
 use Rattle.lexical_write_integer_spec.proofs.DigitsLaws.{digits-value}

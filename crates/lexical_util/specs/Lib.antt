@@ -1,4 +1,3 @@
 pub mod Answer
 pub mod Digit
-pub mod Exponent
 pub mod Examples

@@ -14,11 +14,11 @@ use lib.Ieee.{Float, nan, inf, fin, Format, binary32, binary64, low, hid, ones, 
 use Rattle.lexical_float.specs.declared.num.Parts.{Parts}
 use Rattle.lexical_float.specs.declared.num.Parts.the-variants.{Negative}
 use Rattle.lexical_util.specs.Answer.{Answer, done, refused, andThen, written, held}
-use Rattle.lexical_util.specs.Exponent.{scale, place}
+use Rattle.lexical_exponent.specs.Exponent.{scale, place}
 use Rattle.lexical_float.specs.Fields.{biased, mantissa, exponent}
 use Rattle.lexical_float.specs.Parts.{partsOf, IsValue}
 use Rattle.lexical_util.proofs.AnswerLaws.{refused-done, done-same}
-use Rattle.lexical_util.proofs.DifferenceLaws.{minus-ge, minus-lt}
+use Rattle.lexical_exponent.proofs.DifferenceLaws.{minus-ge, minus-lt}
 use Rattle.lexical_format.specs.declared.checks.CheckedFormat.{CheckedFormat}
 use Rattle.lexical_format.specs.declared.format.Pair.{Pair}
 use Rattle.lexical_format.specs.declared.format.NumberFormat.{NumberFormat}

@@ -6,7 +6,7 @@ use native.Mathlib.Omega.{arith}
 use lib.IntN.{ℤ, pos, negsuc}
 use lib.ListN.{length, length-append}
 use Rattle.lexical_util.specs.Digit.{isRadix}
-use Rattle.lexical_util.specs.Exponent.{isNegative, power}
+use Rattle.lexical_exponent.specs.Exponent.{isNegative, power}
 use Rattle.lexical_write_integer_spec.specs.Digits.{numeral}
 use Rattle.lexical_write_integer_spec.specs.Write.{digitCount}
 use Rattle.lexical_write_integer_spec.proofs.DigitsLaws.{length-numeral}

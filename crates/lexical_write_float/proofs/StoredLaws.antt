@@ -8,8 +8,8 @@ use lib.Signed.{mag}
 use lib.Bits.{bitAnd}
 use lib.Ieee.{size}
 use lib.Ieee.Digits.{size-le}
-use Rattle.lexical_util.specs.Exponent.{clamped, scale}
-use Rattle.lexical_util.proofs.ExponentLaws.{clamped-is}
+use Rattle.lexical_exponent.specs.Exponent.{clamped, scale}
+use Rattle.lexical_exponent.proofs.ExponentLaws.{clamped-is}
 use Rattle.lexical_write_float_spec.specs.Range.{Between}
 use Rattle.lexical_write_integer.proofs.FillLaws.{shifted, masked}
 use lib.Pow.{pow-lt, pow-pos}

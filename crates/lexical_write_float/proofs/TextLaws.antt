@@ -8,7 +8,7 @@ use native.Mathlib.Omega.{arith}
 use lib.IntN.{ℤ, natAbs}
 use lib.Pow.{pow-mono, shl-lt}
 use Rattle.lexical_util.specs.Digit.{isRadix}
-use Rattle.lexical_util.specs.Exponent.{scale, place, isNegative, power}
+use Rattle.lexical_exponent.specs.Exponent.{scale, place, isNegative, power}
 use Rattle.lexical_write_integer_spec.proofs.DigitsLaws.{length-numeral, count-pos, radix-above}
 use Rattle.lexical_format.specs.declared.checks.CheckedFormat.{CheckedFormat}
 use Rattle.lexical_format.specs.declared.format.NumberFormat.{NumberFormat}

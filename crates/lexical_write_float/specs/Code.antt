@@ -8,8 +8,8 @@ use lib.IntN.{ℤ, natAbs}
 use lib.ListN.{length, take, drop}
 use lib.Ieee.{Format, fin, fits}
 use Rattle.lexical_util.specs.Answer.{Answer, done, refused, andThen}
-use Rattle.lexical_util.specs.Exponent.{place}
-use Rattle.lexical_util.specs.declared.exponent.Magnitude.{Magnitude}
+use Rattle.lexical_exponent.specs.Exponent.{place}
+use Rattle.lexical_exponent.specs.declared.exponent.Magnitude.{Magnitude}
 use Rattle.lexical_float.specs.declared.num.Parts.{Parts}
 use Rattle.lexical_float.specs.declared.num.Parts.the-variants as parts
 use Rattle.lexical_write_integer_spec.specs.Digits.{numeral}

@@ -1,7 +1,7 @@
 // Derived from lexical-write-float/src/binary.rs, changed: the unit of a digit limit is aligned with the digits; a value comes back in normal form, so that a carry needs no count of its own; and a layout answers a plan, which is measured before it is written.
 ghost use mathlib.Core.Path.{_≡_};
 ghost use Prim.Native.Nat.{ℕ, _+_, _-_, _*_, _^_, _≤_, _<_};
-ghost use Rattle.lexical_util.specs.Exponent.{modulo};
+ghost use Rattle.lexical_exponent.specs.Exponent.{modulo};
 ghost use Rattle.lexical_write_float_spec.specs.Value.{normal};
 ghost use Rattle.lexical_write_float_spec.specs.Limit.{rounded, limited};
 ghost use Rattle.lexical_write_float_spec.specs.Range.{Between};
@@ -12,18 +12,18 @@ ghost use Rattle.lexical_format.specs.declared.format.NumberFormat.{NumberForma
 ghost use Rattle.lexical_write_float_spec.specs.Text.{point, negative, positive};
 use crate::plan::Plan;
 use crate::shared::missing_digits;
+use lexical_exponent::BitExponent;
+use lexical_exponent::DigitExponent;
+use lexical_exponent::Magnitude;
+use lexical_exponent::calculate_shl;
+use lexical_exponent::digits_in_bits;
+use lexical_exponent::height_above;
+use lexical_exponent::raised;
+use lexical_exponent::sci_exp;
+use lexical_exponent::significant_bits;
+use lexical_exponent::zeros_behind_point;
 use lexical_format::Options;
 use lexical_format::RoundMode;
-use lexical_util::BitExponent;
-use lexical_util::DigitExponent;
-use lexical_util::Magnitude;
-use lexical_util::calculate_shl;
-use lexical_util::digits_in_bits;
-use lexical_util::height_above;
-use lexical_util::raised;
-use lexical_util::sci_exp;
-use lexical_util::significant_bits;
-use lexical_util::zeros_behind_point;
 
 // The normal form of a value: the mantissa odd, or both zero.
 pub(crate) fn normalized(value: Magnitude) -> Magnitude

@@ -14,9 +14,9 @@ use crate::pieces::put_leading;
 use crate::pieces::put_zeros;
 use crate::shared::exponent_length;
 use crate::shared::write_exponent;
+use lexical_exponent::BaseExponent;
 use lexical_format::NumberFormat;
 use lexical_format::Options;
-use lexical_util::BaseExponent;
 use lexical_write_float_spec::Layout;
 
 // D by the number that it spells in radix 2^bits_per_digit, and how many digits it has.

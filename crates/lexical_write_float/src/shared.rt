@@ -10,11 +10,11 @@ ghost use Rattle.lexical_format.specs.Format.{lowBreak, highBreak};
 ghost use Rattle.lexical_write_float.specs.Code.{Puts, signText, tailText};
 use crate::pieces::put_byte;
 use crate::pieces::put_number;
+use lexical_exponent::BaseExponent;
+use lexical_exponent::BitExponent;
+use lexical_exponent::is_below;
 use lexical_format::CheckedFormat;
 use lexical_format::NumberFormat;
-use lexical_util::BaseExponent;
-use lexical_util::BitExponent;
-use lexical_util::is_below;
 use lexical_write_float_spec::Layout;
 
 // How many zeros fill `count` digits up to the least count.

@@ -7,7 +7,7 @@ use native.Mathlib.Omega.{arith}
 use borrow.Author.Tests.{lt-ltb, le-ltb}
 use lib.IntN.{ℤ, pos, negsuc, negℤ, predℤ, _+ℤ_, _-ℤ_, _*ℤ_, +ℤ-assoc, +ℤ-comm, +ℤ-idr, +ℤ-negℤ-cancel, -ℤ-+ℤ-cancel, *ℤ-comm, predℤ-*ℤ, -ℤ-one}
 use lib.Signed.{shrZ}
-use Rattle.lexical_util.specs.Exponent.{modulo}
+use Rattle.lexical_exponent.specs.Exponent.{modulo}
 use Rattle.lexical_write_float_spec.specs.Range.{Between}
 
 -- b times the floor, and the remainder

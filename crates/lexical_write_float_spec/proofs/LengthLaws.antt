@@ -10,7 +10,7 @@ use lib.IntN.{ℤ, pos, negsuc, natAbs}
 use lib.Signed.{ltZ}
 use lib.ListN.{length, take, drop, length-append, length-replicate, length-take, length-drop}
 use Rattle.lexical_util.specs.Digit.{isRadix}
-use Rattle.lexical_util.specs.Exponent.{scale, place, power}
+use Rattle.lexical_exponent.specs.Exponent.{scale, place, power}
 use Rattle.lexical_util.proofs.RadixLaws.{radix-bounds}
 use Rattle.lexical_write_integer_spec.specs.Digits.{numeral}
 use Rattle.lexical_write_integer_spec.proofs.DigitsLaws.{count-le, length-numeral}

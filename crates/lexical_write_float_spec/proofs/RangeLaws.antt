@@ -10,14 +10,14 @@ use lib.Pow.{pow-add, pow-pos, pow-mono}
 use lib.Ieee.{fin, Format, binary32, binary64, prec, emax, low, up, down, size, fits}
 use lib.Ieee.Digits.{size-lt, size-le}
 use lib.Ieee.Fits.{and-l, and-r}
-use Rattle.lexical_util.specs.Exponent.{scale, place}
-use Rattle.lexical_util.proofs.ExponentLaws.{scale-is}
-use Rattle.lexical_util.proofs.PowerLaws.{power-le, size-pos}
+use Rattle.lexical_exponent.specs.Exponent.{scale, place}
+use Rattle.lexical_exponent.proofs.ExponentLaws.{scale-is}
+use Rattle.lexical_exponent.proofs.PowerLaws.{power-le, size-pos}
 use Rattle.lexical_format.specs.declared.options.RoundMode.{RoundMode}
 use Rattle.lexical_write_float_spec.specs.Value.{normal}
 use Rattle.lexical_write_float_spec.specs.Range.{Between, Ranged}
 use Rattle.lexical_write_float_spec.specs.Limit.{rounded, limited}
-use Rattle.lexical_util.proofs.DifferenceLaws.{by-larger}
+use Rattle.lexical_exponent.proofs.DifferenceLaws.{by-larger}
 use Rattle.lexical_write_float_spec.proofs.Integers.{between-add, between-wider}
 use Rattle.lexical_write_float_spec.proofs.ValueLaws.{size-under, is-normal, normal-odd, scale-normal}
 use Rattle.lexical_write_float_spec.proofs.LimitLaws.{rounded-le, kept, limited-kept, limited-cut}

@@ -10,9 +10,9 @@ use lib.ListN.{length, getD}
 use lib.Pow.{pow-add, pow-pos, shl-lt}
 use lib.Ieee.{size}
 use lib.Ieee.Digits.{size-lt, size-le, size-reaches}
-use Rattle.lexical_util.specs.Exponent.{scale, place, modulo}
-use Rattle.lexical_util.proofs.ExponentLaws.{scale-is, modulo-lt}
-use Rattle.lexical_util.proofs.PowerLaws.{size-more, size-pos}
+use Rattle.lexical_exponent.specs.Exponent.{scale, place, modulo}
+use Rattle.lexical_exponent.proofs.ExponentLaws.{scale-is, modulo-lt}
+use Rattle.lexical_exponent.proofs.PowerLaws.{size-more, size-pos}
 use Rattle.lexical_write_integer_spec.specs.Digits.{digits, numeral}
 use Rattle.lexical_write_integer_spec.proofs.DigitsLaws.{radix-above, count-bits, count-lt, first-pos, length-numeral}
 use Rattle.lexical_write_float_spec.specs.Value.{Value, normal, exactDigits}

@@ -19,7 +19,7 @@ use Rattle.lexical_format.specs.declared.format.NumberFormat.{NumberFormat}
 use Rattle.lexical_format.specs.declared.options.Options.{Options}
 use Rattle.lexical_format.specs.Format.{writingFormat}
 use Rattle.lexical_format.proofs.FormatLaws.{power-whole, Writable, writable}
-use Rattle.lexical_util.specs.Exponent.{modulo}
+use Rattle.lexical_exponent.specs.Exponent.{modulo}
 use Rattle.lexical_write_float_spec.specs.Value.{exactDigits}
 use Rattle.lexical_write_float_spec.specs.Write.{limitedText, floatText, writeText}
 use Rattle.lexical_write_float_spec.specs.Limit.{limited}

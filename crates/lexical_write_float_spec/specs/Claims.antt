@@ -9,7 +9,7 @@ use lib.Signed.{shrZ}
 use lib.ListN.{length, getD}
 use lib.Ieee.{Float, Format, fits}
 use Rattle.lexical_util.specs.Answer.{done}
-use Rattle.lexical_util.specs.Exponent.{scale, place, power}
+use Rattle.lexical_exponent.specs.Exponent.{scale, place, power}
 use Rattle.lexical_format.specs.declared.format.Pair.{Pair}
 use Rattle.lexical_format.specs.declared.format.NumberFormat.{NumberFormat}
 use Rattle.lexical_format.specs.declared.options.Options.{Options}

@@ -3,7 +3,7 @@ use Prim.Native.Nat.{ℕ, zero, suc, _*_, _/_}
 use lib.IntN.{ℤ, pos, _+ℤ_, _-ℤ_, _*ℤ_}
 use lib.Ieee.{up, down}
 use lib.Ieee.Nearest.{closest}
-use Rattle.lexical_util.specs.Exponent.{scale, place}
+use Rattle.lexical_exponent.specs.Exponent.{scale, place}
 use Rattle.lexical_format.specs.declared.options.RoundMode.{RoundMode}
 use Rattle.lexical_format.specs.declared.options.RoundMode.the-variants.{Round, Truncate}
 use Rattle.lexical_write_float_spec.specs.Value.{Value, normal}

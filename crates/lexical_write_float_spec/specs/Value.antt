@@ -4,7 +4,7 @@ use mathlib.Core.List.{List}
 use lib.Count.{trailingZeros}
 use lib.IntN.{ℤ, pos, _+ℤ_}
 use lib.Ieee.{size}
-use Rattle.lexical_util.specs.Exponent.{modulo}
+use Rattle.lexical_exponent.specs.Exponent.{modulo}
 use Rattle.lexical_write_integer_spec.specs.Digits.{numeral}
 
 -- a whole number times a power of two

@@ -4,9 +4,9 @@ ghost use Prim.Native.Nat.{_-_};
 ghost use lib.Ieee.{size};
 ghost use Rattle.lexical_write_integer_spec.specs.Write.{digitCount, digitLog};
 use crate::decimal::decimal_count;
+use lexical_exponent::quotient;
+use lexical_exponent::significant_bits;
 use lexical_util::digit_bits;
-use lexical_util::quotient;
-use lexical_util::significant_bits;
 
 // The place of the highest bit that is set, 0 for 0.
 pub(crate) fn fast_log2(x: u64) -> u32

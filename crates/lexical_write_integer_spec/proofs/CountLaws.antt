@@ -7,7 +7,7 @@ use lib.Ieee.{size}
 use lib.Ieee.Digits.{size-le}
 use lib.ListN.{length}
 use lib.Pow.{pow-pos}
-use Rattle.lexical_util.proofs.PowerLaws.{size-zero}
+use Rattle.lexical_exponent.proofs.PowerLaws.{size-zero}
 use Rattle.lexical_write_integer_spec.specs.Digits.{digits}
 use Rattle.lexical_write_integer_spec.proofs.DigitsLaws.{count-lt, count-bits}
 

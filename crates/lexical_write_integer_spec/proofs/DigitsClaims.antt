@@ -8,7 +8,7 @@ use lib.Ieee.{size}
 use Rattle.lexical_write_integer_spec.specs.Claims.{ReadBack, EachBelow, NoLeadingZero, DigitCount, LastJoin, LastAreAll}
 use Rattle.lexical_write_integer_spec.proofs.DigitsLaws.{digits-value, digits-below, first-pos, count-lt, count-bits}
 use Rattle.lexical_write_integer_spec.proofs.LastLaws.{numeral-last, last-add}
-use Rattle.lexical_util.proofs.PowerLaws.{size-zero, size-pos}
+use Rattle.lexical_exponent.proofs.PowerLaws.{size-zero, size-pos}
 
 pub read-back : ReadBack
 read-back radix x h = digits-value radix h x

@@ -13,7 +13,7 @@ use lib.Seq.{getD-at}
 use lib.Ieee.{size}
 use lib.Ieee.Digits.{size-lt, size-reaches}
 use Rattle.lexical_util.specs.Digit.{digitByte, AreDigits, readOn, digitsValue}
-use Rattle.lexical_util.proofs.PowerLaws.{size-pos}
+use Rattle.lexical_exponent.proofs.PowerLaws.{size-pos}
 use Rattle.lexical_write_integer_spec.specs.Digits.{digitsUpTo, digits, numeral}
 
 -- ---- the two cases, and induction by them

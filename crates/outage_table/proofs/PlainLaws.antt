@@ -6,7 +6,7 @@ use native.Mathlib.Omega.{arith}
 use lib.Dec.{T}
 use lib.Ieee.{Float, nan, inf, fin, Format, hid, ones, top, ofBits}
 use lib.Ieee.Scale.{finite}
-use Rattle.lexical_util.proofs.DifferenceLaws.{by-larger}
+use Rattle.lexical_exponent.proofs.DifferenceLaws.{by-larger}
 use Rattle.lexical_float.specs.Encoding.{bitsOf}
 use Rattle.lexical_float.proofs.PartsLaws.{bits-value, special-bits, special-value, split-bits}
 use Rattle.outage_spec.specs.Window.{isPlain}

@@ -1,5 +1,5 @@
 -- `export_structs::options_of` meets its contract: the breaks are handed on as they came. Assumes nothing.
-use Rattle.lexical_util.proofs.DifferenceLaws.{read-back}
+use Rattle.lexical_exponent.proofs.DifferenceLaws.{read-back}
 use borrow.Author.Needs.{needs}
 use Rattle.export_structs.proofs.format.options_of.Statement.{statement}
 use Rattle.export_structs.proofs.format.options_of.Tie as tie

@@ -5,7 +5,7 @@ use mathlib.Core.Logic.{⊎-elim}
 use borrow.Author.Needs.{needs}
 use lib.IntN.{pos, negsuc}
 use Rattle.lexical_format.specs.Format.{orAbsent, lowBreak, highBreak, outside, badBreaks}
-use Rattle.lexical_util.proofs.DifferenceLaws.{read-back}
+use Rattle.lexical_exponent.proofs.DifferenceLaws.{read-back}
 use Rattle.lexical_format.proofs.checks.check_writing.Statement.{statement}
 use Rattle.lexical_format.proofs.checks.check_writing.Tie as tie
 

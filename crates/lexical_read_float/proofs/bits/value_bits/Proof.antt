@@ -5,8 +5,8 @@ use native.Mathlib.Nat.{mul-le-mul, le-trans}
 use native.Mathlib.Omega.{arith}
 use borrow.Author.Needs.{needs}
 use lib.IntN.{pos, natAbs}
-use Rattle.lexical_util.specs.Exponent.{heightAbove}
-use Rattle.lexical_util.proofs.ExponentLaws.{height-few, signed-few}
+use Rattle.lexical_exponent.specs.Exponent.{heightAbove}
+use Rattle.lexical_exponent.proofs.ExponentLaws.{height-few, signed-few}
 use Rattle.lexical_float.specs.Encoding.{formatOf}
 use Rattle.lexical_read_float.specs.declared.bits.Powers.{Powers}
 use Rattle.lexical_read_float.specs.Bits.{powersOf}

@@ -6,8 +6,8 @@ use borrow.Author.Needs.{needs}
 use lib.IntN.{ℤ, pos}
 use mir.Syntax.{w32}
 use mir.Facts.{toZ-pos}
-use Rattle.lexical_util.specs.Exponent.{heightAbove}
-use Rattle.lexical_util.proofs.ExponentLaws.{digits-height}
+use Rattle.lexical_exponent.specs.Exponent.{heightAbove}
+use Rattle.lexical_exponent.proofs.ExponentLaws.{digits-height}
 use Rattle.lexical_read_float.proofs.KeepLaws.{ended, all-kept, stops, joined, joined-below}
 use Rattle.lexical_read_float.proofs.digits.mantissa_digits.Statement.{statement}
 use Rattle.lexical_read_float.proofs.digits.mantissa_digits.Tie as tie

@@ -1,7 +1,7 @@
 -- `lexical_record::record::options_of` meets its contract, byte by byte. Assumes nothing.
 use mathlib.Core.Path.{_∙_}
 use borrow.Author.Needs.{needs}
-use Rattle.lexical_util.proofs.DifferenceLaws.{read-back}
+use Rattle.lexical_exponent.proofs.DifferenceLaws.{read-back}
 use Rattle.lexical_rewrite_spec.specs.Record.{optionsOf}
 use Rattle.lexical_rewrite.proofs.record.options_of.Statement.{statement}
 use Rattle.lexical_rewrite.proofs.record.options_of.Tie as tie

@@ -7,8 +7,8 @@ use borrow.Author.Needs.{needs}
 use lib.IntN.{ℤ, pos}
 use mir.Syntax.{w32}
 use mir.Facts.{toZ-pos}
-use Rattle.lexical_util.specs.Exponent.{heightAbove}
-use Rattle.lexical_util.proofs.ExponentLaws.{digits-height}
+use Rattle.lexical_exponent.specs.Exponent.{heightAbove}
+use Rattle.lexical_exponent.proofs.ExponentLaws.{digits-height}
 use Rattle.lexical_write_float.proofs.binary.kept_bits.Statement.{statement}
 use Rattle.lexical_write_float.proofs.binary.kept_bits.Tie as tie
 

@@ -7,8 +7,8 @@ use borrow.Author.Needs.{needs}
 use lib.IntN.{ℤ, pos, _+ℤ_}
 use lib.Ieee.{size}
 use lib.Ieee.Digits.{size-le}
-use Rattle.lexical_util.specs.Exponent.{scale, modulo}
-use Rattle.lexical_util.proofs.PowerLaws.{size-pos}
+use Rattle.lexical_exponent.specs.Exponent.{scale, modulo}
+use Rattle.lexical_exponent.proofs.PowerLaws.{size-pos}
 use Rattle.lexical_write_float_spec.specs.Value.{normal}
 use Rattle.lexical_write_float_spec.specs.Range.{Between}
 use Rattle.lexical_write_float_spec.proofs.Integers.{between-wider}

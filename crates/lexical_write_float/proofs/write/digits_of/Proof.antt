@@ -4,7 +4,7 @@ use mathlib.Core.Path.{_≡_, sym, ap, _∙_}
 use native.Mathlib.Omega.{arith}
 use lib.ListN.{length}
 use Rattle.lexical_write_integer_spec.specs.Digits.{numeral}
-use Rattle.lexical_util.specs.Exponent.{modulo}
+use Rattle.lexical_exponent.specs.Exponent.{modulo}
 use Rattle.lexical_write_float_spec.specs.Value.{exactDigits}
 use Rattle.lexical_write_integer_spec.proofs.DigitsAnswer.{log-known}
 use Rattle.lexical_write_integer_spec.proofs.DigitsLaws.{length-numeral}

@@ -5,7 +5,7 @@ use mathlib.Core.List.{List, _++_}
 use lib.IntN.{natAbs}
 use lib.ListN.{length}
 use Rattle.lexical_util.specs.Answer.{done, held}
-use Rattle.lexical_util.specs.Exponent.{scale, place}
+use Rattle.lexical_exponent.specs.Exponent.{scale, place}
 use Rattle.lexical_write_float_spec.specs.Text.{point, layoutOf, text}
 use Rattle.lexical_write_float.specs.Code.{rowOf, digitsOf, planText, bodyText, tailText}
 use Rattle.lexical_write_float_spec.proofs.RangeLaws.{place-near}

@@ -2,7 +2,7 @@
 use mathlib.Core.Path.{_≡_, _∙_}
 use mathlib.Core.Bool.{_||_}
 use mathlib.Core.Logic.{⊎-elim}
-use Rattle.lexical_util.proofs.DifferenceLaws.{read-back}
+use Rattle.lexical_exponent.proofs.DifferenceLaws.{read-back}
 use Rattle.lexical_format.specs.Format.{badCounts, given}
 use Rattle.outage_table.proofs.FormatLaws.{limitedTo, counts-none, counts-some, checked-limited}
 use Rattle.outage_table.proofs.format.check_format.Statement.{statement}

@@ -1,7 +1,7 @@
 -- `vectors::numbers::signed` meets its contract: a number below 2^31 has a negative. Assumes nothing.
 use mir.Syntax.{w32}
 use native.Mathlib.Omega.{arith}
-use Rattle.lexical_util.proofs.DifferenceLaws.{difference-fits}
+use Rattle.lexical_exponent.proofs.DifferenceLaws.{difference-fits}
 use borrow.Author.Needs.{needs}
 use Rattle.vectors.proofs.numbers.signed.Statement.{statement}
 use Rattle.vectors.proofs.numbers.signed.Tie as tie

@@ -1,0 +1,3 @@
+pub mod DifferenceLaws
+pub mod PowerLaws
+pub mod ExponentLaws
