@@ -17,8 +17,8 @@ use Rattle.export_structs.specs.declared.answer.StationAnswer.{StationAn
 use Rattle.export_structs.specs.declared.format.Format.{Format}
 
 -- radix, base, exponent radix and flags
-abbrev pub formatOf : Format → NumberFormat
-formatOf f =
+abbrev pub numberFormatOf : Format → NumberFormat
+numberFormatOf f =
     record {
       «mantissa_radix» = f .«mantissa_radix»;
       «exponent_base» = f .«exponent_base»;
@@ -48,7 +48,7 @@ optionsOf f =
     }
 
 abbrev pub textFormatOf : Format → TextFormat
-textFormatOf f = record { format = formatOf f; options = optionsOf f }
+textFormatOf f = record { format = numberFormatOf f; options = optionsOf f }
 
 -- a length with number and place 0, or a refusal's number and place with value 0
 abbrev pub answerOf : called.Answer ℕ → Answer

@@ -1,6 +1,6 @@
 // A format as it crosses, and what the calls beneath take for it.
 ghost use mathlib.Core.Path.{_≡_};
-ghost use Rattle.export_structs.specs.Structs.{formatOf, modeOf, optionsOf, textFormatOf};
+ghost use Rattle.export_structs.specs.Structs.{numberFormatOf, modeOf, optionsOf, textFormatOf};
 use lexical_format::NumberFormat;
 use lexical_format::Options;
 use lexical_format::RoundMode;
@@ -26,8 +26,8 @@ pub struct Format {
     pub exponent_radix: u32,
 }
 
-pub fn format_of(format: Format) -> NumberFormat
-    ensures { λ r. ⌜ r ≡ formatOf format ⌝ }
+pub fn number_format_of(format: Format) -> NumberFormat
+    ensures { λ r. ⌜ r ≡ numberFormatOf format ⌝ }
 {
     NumberFormat {
         mantissa_radix: format.mantissa_radix,
@@ -70,7 +70,7 @@ pub fn text_format_of(format: Format) -> TextFormat
 {
     let options = options_of(format);
     TextFormat {
-        format: format_of(format),
+        format: number_format_of(format),
         options,
     }
 }

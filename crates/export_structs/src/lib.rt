@@ -12,6 +12,6 @@ pub use answer::answer_of;
 pub use answer::chained_of;
 pub use answer::rewritten_of;
 pub use format::Format;
-pub use format::format_of;
+pub use format::number_format_of;
 pub use format::options_of;
 pub use format::text_format_of;

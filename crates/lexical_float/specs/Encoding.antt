@@ -7,9 +7,9 @@ use Rattle.lexical_float.specs.declared.encoding.Encoding.{Encoding}
 use Rattle.lexical_float.specs.declared.encoding.Width.{Width}
 use Rattle.lexical_float.specs.declared.encoding.Width.the-variants.{Binary32, Binary64}
 
-abbrev pub formatOf : Width → Format
-formatOf Binary32 = binary32
-formatOf Binary64 = binary64
+abbrev pub ofWidth : Width → Format
+ofWidth Binary32 = binary32
+ofWidth Binary64 = binary64
 
 abbrev pub encodingOf : Format → Encoding
 encodingOf f =

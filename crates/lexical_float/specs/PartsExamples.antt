@@ -19,10 +19,10 @@ sameInteger (negsuc a) (pos b) = false
 sameInteger (negsuc a) (negsuc b) = eqb a b
 
 -- finite with the sign bit clear, or with it set, of this mantissa and this exponent; an infinity or a NaN
-abbrev isPlain : ℕ → ℤ → Parts → Bool
-isPlain m e (Plain v) = eqb (v .mantissa) m && sameInteger (v .exponent .0) e
-isPlain m e (Negative v) = false
-isPlain m e Special = false
+abbrev isPlainOf : ℕ → ℤ → Parts → Bool
+isPlainOf m e (Plain v) = eqb (v .mantissa) m && sameInteger (v .exponent .0) e
+isPlainOf m e (Negative v) = false
+isPlainOf m e Special = false
 
 abbrev isNegative : ℕ → ℤ → Parts → Bool
 isNegative m e (Plain v) = false
@@ -36,7 +36,7 @@ isSpecial Special = true
 
 -- the float with these bits is m * 2 ^ e, and has this s
 abbrev plain : String → Format → ℕ → ℕ → ℤ → ℤ → Example
-plain name f bits m e s = record { name = name; holds = isPlain m e (partsOf f (ofBits f bits)) && sameInteger (scale m e) s }
+plain name f bits m e s = record { name = name; holds = isPlainOf m e (partsOf f (ofBits f bits)) && sameInteger (scale m e) s }
 
 abbrev negative : String → Format → ℕ → ℕ → ℤ → Example
 negative name f bits m e = record { name = name; holds = isNegative m e (partsOf f (ofBits f bits)) }

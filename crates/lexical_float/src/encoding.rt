@@ -2,7 +2,7 @@
 ghost use mathlib.Core.Path.{_≡_};
 ghost use Prim.Native.Nat.{_*_, _<_};
 ghost use lib.Ieee.{hid, ones, top, ofBits};
-ghost use Rattle.lexical_float.specs.Encoding.{formatOf, encodingOf};
+ghost use Rattle.lexical_float.specs.Encoding.{ofWidth, encodingOf};
 ghost use Rattle.lexical_float.specs.Parts.{magnitudeOf, partsOf};
 use crate::num::Parts;
 use lexical_exponent::BitExponent;
@@ -24,7 +24,7 @@ pub struct Encoding {
 }
 
 pub fn encoding_of(width: Width) -> Encoding
-    ensures { λ r. ⌜ r ≡ encodingOf (formatOf width) ⌝ }
+    ensures { λ r. ⌜ r ≡ encodingOf (ofWidth width) ⌝ }
 {
     match width {
         Width::Binary32 => Encoding {
@@ -48,8 +48,8 @@ pub fn encoding_of(width: Width) -> Encoding
 
 // Mantissa and exponent of the bits below the sign.
 fn magnitude_of_bits(bits: u64, width: Width) -> Magnitude
-    requires { ⌜ bits < ones (formatOf width) * hid (formatOf width) ⌝ }
-    ensures { λ r. ⌜ r ≡ magnitudeOf (formatOf width) (ofBits (formatOf width) bits) ⌝ }
+    requires { ⌜ bits < ones (ofWidth width) * hid (ofWidth width) ⌝ }
+    ensures { λ r. ⌜ r ≡ magnitudeOf (ofWidth width) (ofBits (ofWidth width) bits) ⌝ }
 {
     let encoding = encoding_of(width);
     let hidden = encoding.hidden_bit_mask;
@@ -70,8 +70,8 @@ fn magnitude_of_bits(bits: u64, width: Width) -> Magnitude
 
 // The parts of any bit pattern of the width.
 pub(crate) fn parts_of_bits(bits: u64, width: Width) -> Parts
-    requires { ⌜ bits < 2 * top (formatOf width) ⌝ }
-    ensures { λ r. ⌜ r ≡ partsOf (formatOf width) (ofBits (formatOf width) bits) ⌝ }
+    requires { ⌜ bits < 2 * top (ofWidth width) ⌝ }
+    ensures { λ r. ⌜ r ≡ partsOf (ofWidth width) (ofBits (ofWidth width) bits) ⌝ }
 {
     let encoding = encoding_of(width);
     let sign = encoding.sign_mask;

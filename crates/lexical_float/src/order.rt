@@ -3,14 +3,14 @@ ghost use mathlib.Core.Path.{_≡_};
 ghost use mathlib.Core.Bool.{false};
 ghost use Prim.Native.Nat.{_*_, _<_};
 ghost use lib.Ieee.{top, ofBits, nanBits, lt};
-ghost use Rattle.lexical_float.specs.Encoding.{formatOf};
+ghost use Rattle.lexical_float.specs.Encoding.{ofWidth};
 use crate::encoding::Width;
 use crate::encoding::encoding_of;
 
 // Bits of one sign are ordered as the values are, of negative floats the other way round.
 fn less_bits(a: u64, b: u64, width: Width) -> bool
-    requires { ⌜ (a < 2 * top (formatOf width)) × (b < 2 * top (formatOf width)) × (nanBits (formatOf width) a ≡ false) × (nanBits (formatOf width) b ≡ false) ⌝ }
-    ensures { λ r. ⌜ r ≡ lt (ofBits (formatOf width) a) (ofBits (formatOf width) b) ⌝ }
+    requires { ⌜ (a < 2 * top (ofWidth width)) × (b < 2 * top (ofWidth width)) × (nanBits (ofWidth width) a ≡ false) × (nanBits (ofWidth width) b ≡ false) ⌝ }
+    ensures { λ r. ⌜ r ≡ lt (ofBits (ofWidth width) a) (ofBits (ofWidth width) b) ⌝ }
 {
     let encoding = encoding_of(width);
     let sign = encoding.sign_mask;

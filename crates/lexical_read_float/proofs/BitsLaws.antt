@@ -14,7 +14,7 @@ use Rattle.lexical_exponent.specs.Exponent.{clamped, heightAbove, signed}
 use Rattle.lexical_exponent.proofs.ExponentLaws.{clamped-is, height-up, height-down, times-signed, signed-held}
 use Rattle.lexical_format.specs.declared.format.Pair.{Pair}
 use Rattle.lexical_read_float_spec.specs.Shape.{Shape}
-use Rattle.lexical_read_float_spec.specs.Read.{magnitude, isNegative, basePower, numerator, denominator, floatOf, valueOf}
+use Rattle.lexical_read_float_spec.specs.Read.{magnitude, hasMinus, basePower, numerator, denominator, floatOf, valueOf}
 use Rattle.lexical_read_float_spec.proofs.ReadLaws.{value-within, value-beyond}
 use Rattle.lexical_read_float.specs.declared.scan.Number.{Number}
 use Rattle.lexical_read_float.specs.declared.bits.Powers.{Powers}
@@ -31,7 +31,7 @@ module _ (f : Format) (row : Pair) (power : ℕ) (t : List ℕ) (s : Shape) (n :
   cut : n .exponent .power .1 ≡ min (magnitude power (s .tail)) 32768
   cut = ap (λ (x : Number). x .exponent .power .1) is
 
-  sign : n .exponent .power .0 ≡ isNegative (s .tail)
+  sign : n .exponent .power .0 ≡ hasMinus (s .tail)
   sign = ap (λ (x : Number). x .exponent .power .0) is
 
   counted : n .fraction .0 ≡ pos (length (s .fraction))
@@ -72,27 +72,27 @@ module _ (f : Format) (row : Pair) (power : ℕ) (t : List ℕ) (s : Shape) (n :
         let l : row .b * length (s .fraction) ≤ 20480 = subst (λ (z : ℤ). row .b * natAbs z ≤ 20480) counted few in
         ap (λ (z : ℤ). clamped (pos (row .b) *ℤ z)) counted ∙ clamped-is (pos behind) (omega arith)
 
-    scaled-is : (b : Bool) → isNegative (s .tail) ≡ b → scaled ≡ signed b lift
+    scaled-is : (b : Bool) → hasMinus (s .tail) ≡ b → scaled ≡ signed b lift
     scaled-is b w =
         let l : row .c * magnitude power (s .tail) ≤ 163835 = subst (λ (m : ℕ). row .c * m ≤ 163835) exact small in
         ap₂ (λ (x : Bool) (m : ℕ). clamped (pos (row .c) *ℤ signed x m)) (sign ∙ w) exact ∙ ap clamped (sym (times-signed b (row .c) _)) ∙ signed-held b lift (omega arith)
 
     module _ (r : Answer Float) (p : Powers) (e : p ≡ powersOf places scaled) (q : r ≡ floatOf f (spelled row s * 2 ^ p .up) (2 ^ p .down)) where
       -- the value by its powers of two, up and down
-      by : (b : Bool) → isNegative (s .tail) ≡ b → (u d : ℕ) → (heightAbove (signed b lift) (pos 0) ≡ u) × (heightAbove (pos 0) (signed b lift) ≡ d) → r ≡ floatOf f (spelled row s * 2 ^ u) (2 ^ (behind + d))
+      by : (b : Bool) → hasMinus (s .tail) ≡ b → (u d : ℕ) → (heightAbove (signed b lift) (pos 0) ≡ u) × (heightAbove (pos 0) (signed b lift) ≡ d) → r ≡ floatOf f (spelled row s * 2 ^ u) (2 ^ (behind + d))
       by b w u d g =
           q
           ∙ ap (λ (x : Powers). floatOf f (spelled row s * 2 ^ x .up) (2 ^ x .down)) (e ∙ ap₂ powersOf places-are (scaled-is b w))
           ∙ rw (g .0, g .1, height-up behind .0)
 
-      value-divided : isNegative (s .tail) ≡ true → r ≡ valueOf f row power t s
+      value-divided : hasMinus (s .tail) ≡ true → r ≡ valueOf f row power t s
       unfolding numerator denominator
       value-divided w =
           by true w 0 lift (height-down lift)
           ∙ value-is _ _ (sym (ap (λ (b : Bool). spelled row s * cond b 1 (basePower row power s)) w))
           (pow-add 2 behind lift ∙ sym (ap (λ (b : Bool). 2 ^ behind * cond b (basePower row power s) 1) w))
 
-      value-multiplied : isNegative (s .tail) ≡ false → r ≡ valueOf f row power t s
+      value-multiplied : hasMinus (s .tail) ≡ false → r ≡ valueOf f row power t s
       unfolding numerator denominator
       value-multiplied w =
           by false w lift 0 (height-up lift)
@@ -100,9 +100,9 @@ module _ (f : Format) (row : Pair) (power : ℕ) (t : List ℕ) (s : Shape) (n :
           (pow-add 2 behind 0 ∙ sym (ap (λ (b : Bool). 2 ^ behind * cond b (basePower row power s) 1) w))
 
       pub value-scaled : r ≡ valueOf f row power t s
-      value-scaled = go (isNegative (s .tail)) refl
+      value-scaled = go (hasMinus (s .tail)) refl
         where
-          go : (b : Bool) → isNegative (s .tail) ≡ b → r ≡ valueOf f row power t s
+          go : (b : Bool) → hasMinus (s .tail) ≡ b → r ≡ valueOf f row power t s
           go true w = value-divided w
           go false w = value-multiplied w
 

@@ -15,10 +15,10 @@ use lib.ListN.{length, drop, getD, drop-of-length-le}
 use lib.Seq.{drop-cons}
 use Rattle.lexical_util.specs.Digit.{digitValue, digitIn, readOn}
 use Rattle.lexical_read_float_spec.specs.Parse.{more, run}
-use Rattle.lexical_read_float.specs.Digits.{IsValue, digitsFrom, endFrom, allZero}
+use Rattle.lexical_read_float.specs.Digits.{IsDigitOrNone, digitsFrom, endFrom, allZero}
 
 -- ---- the digit of a radix that a byte is, by a number that tells its digit value
-module _ (radix x d : ℕ) (small : radix ≤ 32) (is : IsValue (digitValue x) d) where
+module _ (radix x d : ℕ) (small : radix ≤ 32) (is : IsDigitOrNone (digitValue x) d) where
   pub digit-below : d < radix → digitIn radix x ≡ some d
   unfolding digitIn
   digit-below h = rw (is .digit (omega arith), lt-ltb d radix h)
@@ -31,10 +31,10 @@ module _ (radix x d : ℕ) (small : radix ≤ 32) (is : IsValue (digitValue x) d
   ]
 
 -- ---- a number that tells a digit value, or that there is none
-pub tells-digit : (x d : ℕ) → digitValue x ≡ some d → d < 32 → IsValue (digitValue x) d
+pub tells-digit : (x d : ℕ) → digitValue x ≡ some d → d < 32 → IsDigitOrNone (digitValue x) d
 tells-digit x d e h = record { digit = λ l. e; no-digit = λ l. absurd (omega arith) }
 
-pub tells-none : (x d : ℕ) → digitValue x ≡ none → 32 ≤ d → IsValue (digitValue x) d
+pub tells-none : (x d : ℕ) → digitValue x ≡ none → 32 ≤ d → IsDigitOrNone (digitValue x) d
 tells-none x d e h = record { digit = λ l. absurd (omega arith); no-digit = λ l. e }
 
 pub cons-nil : (d : ℕ) (ds : List ℕ) → d ∷ ds ≡ [] → ⊥

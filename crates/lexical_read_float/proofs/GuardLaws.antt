@@ -11,7 +11,7 @@ use lib.Dec.{T, eqb, eqb→eq}
 use lib.Pow.{pow-add, pow-pos, split}
 use lib.Ieee.Fits.{and-l, and-r}
 use Rattle.lexical_read_float_spec.proofs.Closest.{Closest, tie}
-use Rattle.lexical_read_float.specs.Guard.{Leading, isClear, toNearest, guarded, upward, raised}
+use Rattle.lexical_read_float.specs.Guard.{Leading, isClear, toNearest, guarded, upward, roundedUp}
 
 -- one of two parts is set
 either : (clear : Bool) (part whole : ℕ) → (T (not clear) → 0 < whole) → (0 < part → 0 < whole) → T (not (clear && eqb part 0)) → 0 < whole
@@ -102,8 +102,8 @@ module _ (n unit bits : ℕ) (clear : Bool) (l : Leading n unit bits clear) wher
   unfolding guarded
   guarded-closest = nearest-at n unit (bits / 2) (bits % 2) (l .rest) clear whole (omega arith) (l .small) (l .none) (l .some)
 
-  pub raised-ceiling : Ceiling n (2 * unit) (raised bits clear)
-  unfolding raised
+  pub raised-ceiling : Ceiling n (2 * unit) (roundedUp bits clear)
+  unfolding roundedUp
   raised-ceiling = raised-at n unit (bits / 2) (bits % 2) (l .rest) clear whole (omega arith) (l .small) (l .none) (l .some)
 
 -- ---- rounded up is no less than to the nearest
@@ -112,6 +112,6 @@ up-most zero clear last h = zero-le
 up-most (suc guard) false last h = omega arith
 up-most (suc guard) true last h = h
 
-pub guarded-le : (bits : ℕ) (clear : Bool) → guarded bits clear ≤ raised bits clear
-unfolding guarded raised
+pub guarded-le : (bits : ℕ) (clear : Bool) → guarded bits clear ≤ roundedUp bits clear
+unfolding guarded roundedUp
 guarded-le bits clear = let h = up-most (bits % 2) clear (bits / 2 % 2) (omega arith) in omega arith

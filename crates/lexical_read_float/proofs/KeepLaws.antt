@@ -12,7 +12,7 @@ use lib.Pow.{pow-mono}
 use lib.ListN.{length}
 use Rattle.lexical_read_float.specs.declared.kept.Kept.{Kept}
 use Rattle.lexical_read_float.specs.Kept.{full, keepDigit, keepDigits}
-use Rattle.lexical_read_float.specs.Digits.{digitsFrom, endFrom, allZero, Filled}
+use Rattle.lexical_read_float.specs.Digits.{digitsFrom, endFrom, allZero, FilledBits}
 use Rattle.lexical_read_float.proofs.DigitRunLaws.{cons-nil, end-here}
 
 -- bits that are not full have room for five more
@@ -58,7 +58,7 @@ kept-below b k (d ∷ ds) h = elim (decLe full (k .bits)) [
 ]
 
 -- ---- digits that went into the bits up to a place, where none are left
-module _ (radix b : ℕ) (t : List ℕ) (from : ℕ) (start : Kept) (end bits : ℕ) (filled : Filled radix b t from (start .bits) end bits) (room : bits < full) where
+module _ (radix b : ℕ) (t : List ℕ) (from : ℕ) (start : Kept) (end bits : ℕ) (filled : FilledBits radix b t from (start .bits) end bits) (room : bits < full) where
   pub ended : end ≡ endFrom radix t from
   ended = end-here radix t from end (filled .ends) (filled .done room)
 
@@ -67,7 +67,7 @@ module _ (radix b : ℕ) (t : List ℕ) (from : ℕ) (start : Kept) (end bits : 
   all-kept = sym (ap (keepDigits b (record { bits = bits; below = start .below; clear = start .clear })) (filled .done room)) ∙ filled .kept (start .below) (start .clear)
 
 -- ---- digits that went into the bits up to a place, and those from there on
-module _ (radix b : ℕ) (t : List ℕ) (from : ℕ) (start : Kept) (end bits : ℕ) (filled : Filled radix b t from (start .bits) end bits) (stop : ℕ) (is : stop ≡ endFrom radix t end) where
+module _ (radix b : ℕ) (t : List ℕ) (from : ℕ) (start : Kept) (end bits : ℕ) (filled : FilledBits radix b t from (start .bits) end bits) (stop : ℕ) (is : stop ≡ endFrom radix t end) where
   pub stops : stop ≡ endFrom radix t from
   stops = is ∙ filled .ends
 

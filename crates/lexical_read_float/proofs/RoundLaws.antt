@@ -16,7 +16,7 @@ use Rattle.lexical_float.specs.declared.encoding.Encoding.{Encoding}
 use Rattle.lexical_float.specs.Encoding.{encodingOf}
 use Rattle.lexical_float.proofs.EncodingLaws.{hidden-few}
 use Rattle.lexical_read_float_spec.specs.Read.{floatOf}
-use Rattle.lexical_read_float.specs.Guard.{Leading, isClear, guarded, upward, raised}
+use Rattle.lexical_read_float.specs.Guard.{Leading, isClear, guarded, upward, roundedUp}
 use Rattle.lexical_read_float.specs.Pattern.{lift, belowGuard, pattern, ceiling, infinity}
 use Rattle.lexical_read_float.proofs.LeadingLaws.{pattern-le, leading-float, shifted-float, zero-float}
 use Rattle.lexical_read_float.specs.declared.kept.Kept.{Kept}
@@ -65,16 +65,16 @@ module _ (bits : ℕ) (clear : Bool) where
   unfolding guarded
   nearest-up h e = rw (odd h, e)
 
-  pub raised-none : clear ≡ true → eqb (bits % 2) 0 ≡ true → bits / 2 ≡ raised bits clear
-  unfolding raised
+  pub raised-none : clear ≡ true → eqb (bits % 2) 0 ≡ true → bits / 2 ≡ roundedUp bits clear
+  unfolding roundedUp
   raised-none e h = rw (eqb-true (bits % 2) 0 h, e) (sym (add-zero (bits / 2)))
 
-  pub raised-odd : eqb (bits % 2) 0 ≡ false → bits / 2 + 1 ≡ raised bits clear
-  unfolding raised
+  pub raised-odd : eqb (bits % 2) 0 ≡ false → bits / 2 + 1 ≡ roundedUp bits clear
+  unfolding roundedUp
   raised-odd h = rw (odd (eqb-false (bits % 2) 0 h))
 
-  pub raised-some : clear ≡ false → bits / 2 + 1 ≡ raised bits clear
-  unfolding raised
+  pub raised-some : clear ≡ false → bits / 2 + 1 ≡ roundedUp bits clear
+  unfolding roundedUp
   raised-some e = rw e (ap (λ (x : ℕ). bits / 2 + x) (go (bits % 2)))
     where
       go : (guard : ℕ) → 1 ≡ upward guard false
@@ -128,7 +128,7 @@ module _ (f : Format) (bits up down L : ℕ) (L-is : L ≡ lift f bits up down) 
   far-too-large clear h = rw (le-leb (infinity f) (ceiling f bits clear up down) (le-trans (mul-le-mul-right (hid f) (rw (← L-is) (le-trans (ones-small f) h))) (le-add-right (lift f bits up down * hid f) _)))
 
   module _ (E : Encoding) (is : E ≡ encodingOf f) (clear : Bool) (w above : ℕ) (rest : Bool) (w-is : w ≡ low f) (above-is : above ≡ bits / 2 ^ (down + L - (up + w + 1))) (rest-is : rest ≡ isClear clear bits (down + L - (up + w + 1))) where
-    ceiling-is : (r : ℕ) → r ≡ raised above rest → L * E .«hidden_bit_mask» + r ≡ ceiling f bits clear up down
+    ceiling-is : (r : ℕ) → r ≡ roundedUp above rest → L * E .«hidden_bit_mask» + r ≡ ceiling f bits clear up down
     unfolding ceiling belowGuard
     ceiling-is r e = rw (e, above-is, rest-is, w-is, is, L-is)
 
@@ -139,11 +139,11 @@ module _ (f : Format) (bits up down L : ℕ) (L-is : L ≡ lift f bits up down) 
     mask-is : E .«exponent_mask» ≡ infinity f
     mask-is = rw is
 
-    pub too-large : (r : ℕ) → r ≡ raised above rest → E .«exponent_mask» ≤ L * E .«hidden_bit_mask» + r → TooLarge ≡ roundedBits f bits clear up down
+    pub too-large : (r : ℕ) → r ≡ roundedUp above rest → E .«exponent_mask» ≤ L * E .«hidden_bit_mask» + r → TooLarge ≡ roundedBits f bits clear up down
     unfolding roundedBits
     too-large r e h = rw (le-leb (infinity f) (ceiling f bits clear up down) (rw (mask-is, ceiling-is r e) at h))
 
-    pub in-range : (r q : ℕ) → r ≡ raised above rest → L * E .«hidden_bit_mask» + r < E .«exponent_mask» → q ≡ guarded above rest → Bits (L * E .«hidden_bit_mask» + q) ≡ roundedBits f bits clear up down
+    pub in-range : (r q : ℕ) → r ≡ roundedUp above rest → L * E .«hidden_bit_mask» + r < E .«exponent_mask» → q ≡ guarded above rest → Bits (L * E .«hidden_bit_mask» + q) ≡ roundedBits f bits clear up down
     unfolding roundedBits
     in-range r q e h g = rw (lt-leb (infinity f) (ceiling f bits clear up down) (rw (mask-is, ceiling-is r e) at h)) (ap Bits (pattern-is q g))
 

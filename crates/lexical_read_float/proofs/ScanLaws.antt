@@ -15,7 +15,7 @@ use Rattle.lexical_util.specs.Digit.{digitIn, digitsValue}
 use Rattle.lexical_exponent.specs.declared.exponent.DigitExponent.{DigitExponent}
 use Rattle.lexical_read_float_spec.specs.Shape.{Grammar, Sign, unsigned, plus, minus, Tail, exponent}
 use Rattle.lexical_read_float_spec.specs.Parse.{more, run, Parsed, found, stuck, mapParsed, allDigits, exponentDigits, signedExponent, parseTail, withTail, afterWhole, oneOrMore, parse}
-use Rattle.lexical_read_float_spec.specs.Read.{isNegative, exponentPlace}
+use Rattle.lexical_read_float_spec.specs.Read.{hasMinus, exponentPlace}
 use Rattle.lexical_read_float_spec.proofs.RunLaws.{Head}
 use Rattle.lexical_read_float_spec.proofs.ParseLaws.{no-point}
 use Rattle.lexical_read_float.specs.declared.kept.Kept.{Kept}
@@ -55,7 +55,7 @@ pub at-end : (t : List ℕ) (i : ℕ) → i ≡ length t → drop i t ≡ []
 at-end t i e = drop-of-length-le t (let z : length t ≤ i = omega arith in z)
 
 -- ---- exponent digits, and nothing behind them
-same-sign : (s : Sign) (ds : List ℕ) → isNegative (exponent s ds) ≡ isNegative (exponent s [])
+same-sign : (s : Sign) (ds : List ℕ) → hasMinus (exponent s ds) ≡ hasMinus (exponent s [])
 same-sign unsigned ds = refl
 same-sign plus ds = refl
 same-sign minus ds = refl
@@ -74,7 +74,7 @@ module _ (t : List ℕ) (radix : ℕ) (s : Sign) (from : ℕ) where
   more-there (d ∷ ds) (x ∷ xs) e n h = ap tail.Wrong (sym (ap (λ (l : List ℕ). length t - length l) e ∙ place-of t (from + suc (length ds)) (let y : from + suc (length ds) ≤ length t = omega arith in y)))
 
   all-there : (g left : List ℕ) → left ≡ drop (from + length g) t → (from + length g ≡ from → ⊥) → from + length g ≡ length t
-      → (n : Bool) (m : ℕ) → isNegative (exponent s []) ≡ n → m ≡ min (digitsValue radix g) 32768
+      → (n : Bool) (m : ℕ) → hasMinus (exponent s []) ≡ n → m ≡ min (digitsValue radix g) 32768
       → tail.Found (record { power = record { 0 = n; 1 = m }; place = from }) ≡ Wanted g left
   unfolding exponentPlace
   all-there [] left e z h n m p q = absurd (z (let y : from + 0 ≡ from = omega arith in y))
@@ -94,7 +94,7 @@ module _ (t : List ℕ) (radix : ℕ) (s : Sign) (from : ℕ) where
   digits-more end e n h = ap tail.Wrong e ∙ more-there (digitsFrom radix t from) _ left-is (λ z. n (e ∙ z)) (subst (λ (k : ℕ). k < length t) e h)
 
   pub digits-all : (end : ℕ) → end ≡ endFrom radix t from → (end ≡ from → ⊥) → end ≡ length t
-      → (n : Bool) (m : ℕ) → isNegative (exponent s []) ≡ n → m ≡ min (digitsValue radix (digitsFrom radix t from)) 32768
+      → (n : Bool) (m : ℕ) → hasMinus (exponent s []) ≡ n → m ≡ min (digitsValue radix (digitsFrom radix t from)) 32768
       → tail.Found (record { power = record { 0 = n; 1 = m }; place = from }) ≡ scannedTail t radix (exponentDigits radix s (drop from t))
   digits-all end e n h b m p q = all-there (digitsFrom radix t from) _ left-is (λ z. n (e ∙ z)) (sym e ∙ h) b m p q
 

@@ -10,7 +10,7 @@ use Rattle.lexical_read_float_spec.specs.Parse.{run}
 use Rattle.lexical_read_float.specs.Kept.{full, keepDigits}
 
 -- d tells a digit value: below 32 it is that, and from 32 on there is none
-pub record IsValue (v : Option ℕ) (d : ℕ) : Type 0 where
+pub record IsDigitOrNone (v : Option ℕ) (d : ℕ) : Type 0 where
   pub digit : d < 32 → v ≡ some d
   pub no-digit : 32 ≤ d → v ≡ none
 
@@ -26,7 +26,7 @@ allZero [] = true
 allZero (d ∷ ds) = eqb d 0 && allZero ds
 
 -- the digits up to `end` went from `start` into the bits: those still to come make the same of them, and there are some only where the bits are full
-pub record Filled (radix b : ℕ) (t : List ℕ) (from start end bits : ℕ) : Type 0 where
+pub record FilledBits (radix b : ℕ) (t : List ℕ) (from start end bits : ℕ) : Type 0 where
   pub forth : from ≤ end
   pub within : end ≤ length t
   pub ends : endFrom radix t end ≡ endFrom radix t from

@@ -33,5 +33,5 @@ upward zero false = 1
 upward (suc guard) clear = 1
 
 -- the bits above the guard bit, rounded up
-unfoldable pub raised : ℕ → Bool → ℕ
-raised bits clear = bits / 2 + upward (bits % 2) clear
+unfoldable pub roundedUp : ℕ → Bool → ℕ
+roundedUp bits clear = bits / 2 + upward (bits % 2) clear

@@ -2,7 +2,7 @@
 use Prim.Native.Nat.{ℕ, _+_, _-_, _*_, _/_, _^_}
 use mathlib.Core.Bool.{Bool}
 use lib.Ieee.{Format, prec, low, size, hid, ones}
-use Rattle.lexical_read_float.specs.Guard.{isClear, guarded, raised}
+use Rattle.lexical_read_float.specs.Guard.{isClear, guarded, roundedUp}
 
 -- how far the last bit that the width keeps stands above its least value
 unfoldable pub lift : Format → ℕ → ℕ → ℕ → ℕ
@@ -22,7 +22,7 @@ pattern f bits clear up down =
 unfoldable pub ceiling : Format → ℕ → Bool → ℕ → ℕ → ℕ
 ceiling f bits clear up down =
     let count = belowGuard f bits up down in
-    lift f bits up down * hid f + raised (bits / 2 ^ count) (isClear clear bits count)
+    lift f bits up down * hid f + roundedUp (bits / 2 ^ count) (isClear clear bits count)
 
 abbrev pub infinity : Format → ℕ
 infinity f = ones f * hid f

@@ -8,7 +8,7 @@ use lib.ListN.{length}
 use Rattle.lexical_exponent.specs.declared.exponent.DigitExponent.{DigitExponent}
 use Rattle.lexical_read_float_spec.specs.Shape.{Grammar, Tail, Shape}
 use Rattle.lexical_read_float_spec.specs.Parse.{Parsed, found, stuck}
-use Rattle.lexical_read_float_spec.specs.Read.{magnitude, isNegative, exponentPlace}
+use Rattle.lexical_read_float_spec.specs.Read.{magnitude, hasMinus, exponentPlace}
 use Rattle.lexical_read_float.specs.declared.kept.Kept.{Kept}
 use Rattle.lexical_read_float.specs.declared.scan.Mantissa.{Mantissa}
 use Rattle.lexical_read_float.specs.declared.scan.Exponent.{Exponent}
@@ -35,7 +35,7 @@ withFraction t radix b kept end false = record { end = end; kept = kept; fractio
 
 -- the exponent of a text t
 abbrev pub exponentOf : List ℕ → ℕ → Tail → Exponent
-exponentOf t radix τ = record { power = record { 0 = isNegative τ; 1 = min (magnitude radix τ) 32768 }; place = exponentPlace t τ }
+exponentOf t radix τ = record { power = record { 0 = hasMinus τ; 1 = min (magnitude radix τ) 32768 }; place = exponentPlace t τ }
 
 abbrev pub scannedTail : List ℕ → ℕ → Parsed Tail → ScannedTail
 scannedTail t radix (found τ) = tail.Found (exponentOf t radix τ)

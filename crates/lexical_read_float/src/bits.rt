@@ -7,7 +7,7 @@ ghost use lib.Ieee.{Format};
 ghost use Rattle.lexical_util.specs.Answer.{done};
 ghost use Rattle.lexical_exponent.specs.Exponent.{heightAbove};
 ghost use Rattle.lexical_util.specs.Digit.{AreDigits};
-ghost use Rattle.lexical_float.specs.Encoding.{formatOf};
+ghost use Rattle.lexical_float.specs.Encoding.{ofWidth};
 ghost use Rattle.lexical_format.specs.Format.{readingFormat};
 ghost use Rattle.lexical_read_float_spec.specs.Shape.{Shape};
 ghost use Rattle.lexical_read_float_spec.specs.Read.{grammarOf, valueOf, readText};
@@ -72,8 +72,8 @@ fn powers_of(places: BitExponent, power: BitExponent) -> Powers
 // The value of a text's numbers. 10 comes before the powers are formed. One call rounds, whatever the exponent's sign, so that the compiler puts it in place.
 fn value_bits(number: Number, row: Pair, width: Width) -> FloatBits
     requires { ⌜ Bounded number × IsFull (number .kept) × (row .b ≤ 5) × (row .c ≤ 5) ⌝ }
-    ensures { λ r. ⌜ ((t : List ℕ) (power : ℕ) (s : Shape) → AreDigits (2 ^ row .b) (s .whole ++ s .fraction) → number ≡ numberOf t (row .b) power s → ofFloatBits (formatOf width) r ≡ valueOf (formatOf width) row power t s) ⌝ }
-    ensures finite { λ r. ⌜ AreFinite (formatOf width) r ⌝ }
+    ensures { λ r. ⌜ ((t : List ℕ) (power : ℕ) (s : Shape) → AreDigits (2 ^ row .b) (s .whole ++ s .fraction) → number ≡ numberOf t (row .b) power s → ofFloatBits (ofWidth width) r ≡ valueOf (ofWidth width) row power t s) ⌝ }
+    ensures finite { λ r. ⌜ AreFinite (ofWidth width) r ⌝ }
 {
     let exponent = number.exponent;
     let kept = number.kept;
@@ -100,8 +100,8 @@ pub(crate) fn text_bits(
     width: Width,
 ) -> FloatBits
     requires { ⌜ readingFormat format options ≡ done row ⌝ }
-    ensures { λ r. ⌜ ofFloatBits (formatOf width) r ≡ readText (formatOf width) (grammarOf format options) (now (text .entry)) row ⌝ }
-    ensures finite { λ r. ⌜ AreFinite (formatOf width) r ⌝ }
+    ensures { λ r. ⌜ ofFloatBits (ofWidth width) r ≡ readText (ofWidth width) (grammarOf format options) (now (text .entry)) row ⌝ }
+    ensures finite { λ r. ⌜ AreFinite (ofWidth width) r ⌝ }
 {
     if text.len() > 4096 {
         return FloatBits::Refused(Refusal {

@@ -5,7 +5,7 @@ ghost use Prim.Native.Nat.{_*_, _≤_, min};
 ghost use lib.ListN.{length};
 ghost use Rattle.lexical_util.specs.Digit.{digitValue, digitsValue};
 ghost use Rattle.lexical_read_float.specs.Kept.{keepDigits};
-ghost use Rattle.lexical_read_float.specs.Digits.{IsValue, allZero, digitsFrom, endFrom, Filled};
+ghost use Rattle.lexical_read_float.specs.Digits.{IsDigitOrNone, allZero, digitsFrom, endFrom, FilledBits};
 use crate::kept::Kept;
 use lexical_exponent::BitExponent;
 use lexical_exponent::DigitExponent;
@@ -38,7 +38,7 @@ pub(crate) struct ExponentDigits {
 
 // A byte's digit value, or 255 where it has none, so that a loop tests one number. Two matches of one range each, figures and then capitals: one match with both ranges branches between them.
 fn digit_or_none(byte: u8) -> u32
-    ensures { λ r. ⌜ IsValue (digitValue byte) r ⌝ }
+    ensures { λ r. ⌜ IsDigitOrNone (digitValue byte) r ⌝ }
 {
     let value = byte as u32;
     let figure = match byte {
@@ -61,7 +61,7 @@ fn both(a: bool, b: bool) -> bool
 // The digits from a place on that go into the bits: until these are full, or a byte is no digit.
 fn leading_digits(text: &[u8], from: usize, radix: u32, b: u32, start: u64) -> LeadingDigits
     requires { ⌜ (from ≤ length (now text)) × (radix ≤ 32) × (b ≤ 5) ⌝ }
-    ensures { λ r. ⌜ Filled radix b (now (text .entry)) from start (r .end) (r .bits) ⌝ }
+    ensures { λ r. ⌜ FilledBits radix b (now (text .entry)) from start (r .end) (r .bits) ⌝ }
 {
     let mut bits = start;
     let mut i = from;

@@ -2,9 +2,9 @@
 ghost use mathlib.Core.Path.{_≡_};
 ghost use Prim.Native.Nat.{ℕ, _+_, _*_, _/_, _^_, _≤_, _<_};
 ghost use lib.Ieee.{low};
-ghost use Rattle.lexical_float.specs.Encoding.{formatOf};
+ghost use Rattle.lexical_float.specs.Encoding.{ofWidth};
 ghost use Rattle.lexical_read_float_spec.specs.Read.{floatOf};
-ghost use Rattle.lexical_read_float.specs.Guard.{isClear, guarded, raised};
+ghost use Rattle.lexical_read_float.specs.Guard.{isClear, guarded, roundedUp};
 ghost use Rattle.lexical_read_float.specs.Pattern.{lift};
 ghost use Rattle.lexical_read_float.specs.Kept.{full, IsFull, Holds};
 ghost use Rattle.lexical_read_float.specs.Rounding.{ofRounded, IsFinite, roundedBits};
@@ -21,7 +21,7 @@ pub(crate) enum Rounded {
 
 // The n of a width whose least value is 2^-n.
 fn lowest_of(width: Width) -> u32
-    ensures { λ r. ⌜ r ≡ low (formatOf width) ⌝ }
+    ensures { λ r. ⌜ r ≡ low (ofWidth width) ⌝ }
 {
     match width {
         Width::Binary32 => 149,
@@ -32,7 +32,7 @@ fn lowest_of(width: Width) -> u32
 // How far the last bit that the width keeps stands above its least value.
 fn lift_of(bits: u64, up: u32, down: u32, width: Width) -> u32
     requires { ⌜ (up ≤ 300000) × (down ≤ 300000) ⌝ }
-    ensures { λ r. ⌜ r ≡ lift (formatOf width) bits up down ⌝ }
+    ensures { λ r. ⌜ r ≡ lift (ofWidth width) bits up down ⌝ }
 {
     let encoding = encoding_of(width);
     let first = significant_bits(bits) + (up + lowest_of(width));
@@ -82,7 +82,7 @@ fn to_nearest(bits: u64, clear: bool) -> u64
 
 // The same rounded up.
 fn upward(bits: u64, clear: bool) -> u64
-    ensures { λ r. ⌜ r ≡ raised bits clear ⌝ }
+    ensures { λ r. ⌜ r ≡ roundedUp bits clear ⌝ }
     ensures room { λ r. ⌜ r ≤ bits / 2 + 1 ⌝ }
 {
     let half = bits / 2;
@@ -95,7 +95,7 @@ fn upward(bits: u64, clear: bool) -> u64
 // The number is the bits and what is below them, times 2^up / 2^down. Rounded up, the bits of a number above the largest finite float reach the infinity's.
 fn round_bits(bits: u64, clear: bool, up: u32, down: u32, width: Width) -> Rounded
     requires { ⌜ (full ≤ bits) × (up ≤ 300000) × (down ≤ 300000) ⌝ }
-    ensures { λ r. ⌜ r ≡ roundedBits (formatOf width) bits clear up down ⌝ }
+    ensures { λ r. ⌜ r ≡ roundedBits (ofWidth width) bits clear up down ⌝ }
 {
     let encoding = encoding_of(width);
     let lift = lift_of(bits, up, down, width);
@@ -118,8 +118,8 @@ fn round_bits(bits: u64, clear: bool, up: u32, down: u32, width: Width) -> Round
 // The number that the bits stand for, times 2^up / 2^down. Where nothing is below the bits, they are first moved up to the highest place.
 pub(crate) fn round_kept(kept: Kept, up: u32, down: u32, width: Width) -> Rounded
     requires { ⌜ IsFull kept × (kept .below ≤ 20480) × (up ≤ 200000) × (down ≤ 200000) ⌝ }
-    ensures { λ r. ⌜ ((n : ℕ) → Holds n kept → ofRounded (formatOf width) r ≡ floatOf (formatOf width) (n * 2 ^ up) (2 ^ down)) ⌝ }
-    ensures finite { λ r. ⌜ IsFinite (formatOf width) r ⌝ }
+    ensures { λ r. ⌜ ((n : ℕ) → Holds n kept → ofRounded (ofWidth width) r ≡ floatOf (ofWidth width) (n * 2 ^ up) (2 ^ down)) ⌝ }
+    ensures finite { λ r. ⌜ IsFinite (ofWidth width) r ⌝ }
 {
     let bits = kept.bits;
     let below = kept.below;

@@ -6,7 +6,7 @@ ghost use lib.IntN.{natAbs};
 ghost use lib.ListN.{length, drop};
 ghost use Rattle.lexical_read_float_spec.specs.Shape.{Sign, exponent};
 ghost use Rattle.lexical_read_float_spec.specs.Parse.{exponentDigits, signedExponent, parseTail, parse};
-ghost use Rattle.lexical_read_float_spec.specs.Read.{isNegative};
+ghost use Rattle.lexical_read_float_spec.specs.Read.{hasMinus};
 ghost use Rattle.lexical_read_float.specs.Scan.{grammar, beginsWith, withFraction, scannedTail, scannedNumber, scannedShape, IsBounded};
 use crate::digits::exponent_digits;
 use crate::digits::mantissa_digits;
@@ -40,7 +40,7 @@ pub(crate) enum Scanned {
 // One or more exponent digits behind a place, and nothing behind them.
 fn scan_exponent_digits(text: &[u8], before: usize, radix: u32, negative: bool) -> ScannedTail
     requires { ⌜ (before < length (now text)) × (1 ≤ radix) × (radix ≤ 32) ⌝ }
-    ensures { λ r. ⌜ ((s : Sign) → isNegative (exponent s []) ≡ negative → r ≡ scannedTail (now (text .entry)) radix (exponentDigits radix s (drop (before + 1) (now (text .entry))))) ⌝ }
+    ensures { λ r. ⌜ ((s : Sign) → hasMinus (exponent s []) ≡ negative → r ≡ scannedTail (now (text .entry)) radix (exponentDigits radix s (drop (before + 1) (now (text .entry))))) ⌝ }
 {
     let from = before + 1;
     let digits = exponent_digits(text, from, radix);

@@ -23,7 +23,7 @@ use Rattle.lexical_format.proofs.FormatLaws.{readable}
 use Rattle.lexical_read_float_spec.specs.Shape.{Shape, print}
 use Rattle.lexical_read_float_spec.specs.Parse.{Parsed, found, stuck, parse, ofParsed, shapeOf, WrongAt}
 use Rattle.lexical_read_float_spec.specs.Round.{tooLarge, Nearest}
-use Rattle.lexical_read_float_spec.specs.Read.{grammarOf, magnitude, isNegative, basePower, numerator, denominator, floatOf, exponentTooLarge, exponentPlace, valueOf, readText, readFloat}
+use Rattle.lexical_read_float_spec.specs.Read.{grammarOf, magnitude, hasMinus, basePower, numerator, denominator, floatOf, exponentTooLarge, exponentPlace, valueOf, readText, readFloat}
 use Rattle.lexical_read_float_spec.specs.Claims.{PrintedIsRead, FoundIsPrinted, PlaceIsLeast, RoundIsNearest, OnlyOneIsNearest, NearestToText, ReadIsNearest, IsNearest, TextsAreServed}
 use Rattle.lexical_read_float_spec.proofs.ParseLaws.{Apart, parse-print}
 use Rattle.lexical_read_float_spec.proofs.PlaceLaws.{found-prints, wrong-at}
@@ -85,7 +85,7 @@ only-one-is-nearest f s a c x C h n = only-nearest f s a c C h x n
 -- ---- the float read
 pub denominator-pos : (row : Pair) (power : ℕ) (s : Shape) → 0 < denominator row power s
 unfolding denominator
-denominator-pos row power s = mul-pos (pow-pos (row .b * length (s .fraction))) (go (isNegative (s .tail)))
+denominator-pos row power s = mul-pos (pow-pos (row .b * length (s .fraction))) (go (hasMinus (s .tail)))
   where
     go : (b : Bool) → 0 < cond b (basePower row power s) 1
     go true = pow-pos (row .c * magnitude power (s .tail))

@@ -23,11 +23,11 @@ abbrev pub magnitude : ℕ → Tail → ℕ
 magnitude exponentRadix absent = 0
 magnitude exponentRadix (exponent s ds) = digitsValue exponentRadix ds
 
-abbrev pub isNegative : Tail → Bool
-isNegative absent = false
-isNegative (exponent unsigned ds) = false
-isNegative (exponent plus ds) = false
-isNegative (exponent minus ds) = true
+abbrev pub hasMinus : Tail → Bool
+hasMinus absent = false
+hasMinus (exponent unsigned ds) = false
+hasMinus (exponent plus ds) = false
+hasMinus (exponent minus ds) = true
 
 -- It is the fraction numerator / denominator. The radix is 2 ^ b, so each digit behind the point divides by 2 ^ b; the base is 2 ^ c.
 module _ (row : Pair) (exponentRadix : ℕ) (s : Shape) where
@@ -35,10 +35,10 @@ module _ (row : Pair) (exponentRadix : ℕ) (s : Shape) where
   basePower = 2 ^ (row .c * magnitude exponentRadix (s .tail))
 
   unfoldable pub numerator : ℕ
-  numerator = digitsValue (2 ^ row .b) (s .whole ++ s .fraction) * cond (isNegative (s .tail)) 1 basePower
+  numerator = digitsValue (2 ^ row .b) (s .whole ++ s .fraction) * cond (hasMinus (s .tail)) 1 basePower
 
   unfoldable pub denominator : ℕ
-  denominator = 2 ^ (row .b * length (s .fraction)) * cond (isNegative (s .tail)) basePower 1
+  denominator = 2 ^ (row .b * length (s .fraction)) * cond (hasMinus (s .tail)) basePower 1
 
 -- ---- the answer
 -- 11 too large; else the nearest float, ties to even, small values to denormals or zero

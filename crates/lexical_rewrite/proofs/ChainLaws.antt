@@ -9,7 +9,7 @@ use lib.Seq.{drop-drop}
 use lib.Ieee.{Format}
 use Rattle.lexical_rewrite_spec.specs.declared.text_format.TextFormat.{TextFormat}
 use Rattle.lexical_rewrite_spec.specs.Rewrite.{Rewriting, rewritten, readingRefused, writingRefused, readIn, rewriteAnswer, rewriteBytes}
-use Rattle.lexical_rewrite_spec.specs.Record.{formatOf, formatsOf}
+use Rattle.lexical_rewrite_spec.specs.Record.{formatOfRecord, formatsOf}
 use Rattle.lexical_rewrite_spec.specs.Chain.{readingRefusedAt, writingRefusedAt, Outcome, atStation, onward, chain, ownBuffer, stationOf, stationsOf, chainOf}
 use Rattle.lexical_rewrite_spec.proofs.StationLaws.{answer-alike, bytes-alike}
 use Rattle.lexical_rewrite_spec.proofs.DemandLaws.{last-buffer}
@@ -56,7 +56,7 @@ module _ (f : Format) (i : ℕ) (F : TextFormat) (t : List ℕ) (G : TextFormat)
   unfolding onFrom
   on-more r e =
       ap (λ (Gs : List TextFormat). chainOn f i F t G Gs out) (more-records records some)
-      ∙ one-more f i F t G (formatOf records) (formatsOf (drop 19 records)) out
+      ∙ one-more f i F t G (formatOfRecord records) (formatsOf (drop 19 records)) out
       ∙ ap (λ (a : Rewriting). onward i out a next) (answer-is r e)
 
   pub on-written : (n : ℕ) → told ≡ rewritten n → whole ≡ onFrom f (i + 1) G (take n (rewriteBytes G scratch (readIn f F t))) records out
@@ -71,7 +71,7 @@ module _ (f : Format) (i : ℕ) (F : TextFormat) (t : List ℕ) (G : TextFormat)
   on-writing n p e = on-more (writingRefused n p) e
 
 -- ---- the same of the record that stands at a place of the bytes given
-module _ (f : Format) (i : ℕ) (F : TextFormat) (t : List ℕ) (G : TextFormat) (further : List ℕ) (at : ℕ) (out : List ℕ) (is : G ≡ formatOf (drop at further)) where
+module _ (f : Format) (i : ℕ) (F : TextFormat) (t : List ℕ) (G : TextFormat) (further : List ℕ) (at : ℕ) (out : List ℕ) (is : G ≡ formatOfRecord (drop at further)) where
   abbrev behind : List ℕ
   behind = drop 19 (drop at further)
 
@@ -107,9 +107,9 @@ pub source-first : (first : TextFormat) (further : List ℕ) (at : ℕ) → at <
 unfolding sourceAt
 source-first first further at h = rw (lt-ltb at 19 h)
 
-pub source-before : (first : TextFormat) (further : List ℕ) (at : ℕ) → 19 ≤ at → sourceAt first further at ≡ formatOf (drop (at - 19) further)
+pub source-before : (first : TextFormat) (further : List ℕ) (at : ℕ) → 19 ≤ at → sourceAt first further at ≡ formatOfRecord (drop (at - 19) further)
 unfolding sourceAt
 source-before first further at h = rw (le-ltb at 19 h)
 
-pub source-next : (first : TextFormat) (further : List ℕ) (at : ℕ) → sourceAt first further (at + 19) ≡ formatOf (drop at further)
-source-next first further at = source-before first further (at + 19) (omega arith) ∙ ap (λ (n : ℕ). formatOf (drop n further)) (let z : at + 19 - 19 ≡ at = omega arith in z)
+pub source-next : (first : TextFormat) (further : List ℕ) (at : ℕ) → sourceAt first further (at + 19) ≡ formatOfRecord (drop at further)
+source-next first further at = source-before first further (at + 19) (omega arith) ∙ ap (λ (n : ℕ). formatOfRecord (drop n further)) (let z : at + 19 - 19 ≡ at = omega arith in z)

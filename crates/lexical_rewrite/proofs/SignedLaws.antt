@@ -7,9 +7,9 @@ use lib.IntN.{ℤ, pos, negsuc, _-ℤ_}
 use mir.Syntax.{w32}
 use mir.Val.{SFits, toZ, ofZ}
 use mir.Facts.{toZ-pos, toZ-ofZ}
-use Rattle.lexical_rewrite_spec.specs.Record.{signed}
+use Rattle.lexical_rewrite_spec.specs.Record.{twosComplement}
 
-pub signed-low : (n : ℕ) → n < 32768 → toZ w32 n ≡ signed n
+pub signed-low : (n : ℕ) → n < 32768 → toZ w32 n ≡ twosComplement n
 signed-low n h = toZ-pos w32 {n = n} (omega arith) ∙ rw (lt-ltb n 32768 h)
 
 below-is : (k : ℕ) → negsuc 0 -ℤ pos k ≡ negsuc k
@@ -22,5 +22,5 @@ high-is n h k = ap (λ (z : ℤ). negsuc 0 -ℤ z) (toZ-pos w32 {n = 65535 - n} 
 pub high-fits : (n : ℕ) → 32768 ≤ n → n < 65536 → SFits w32 (negsuc 0 -ℤ toZ w32 (65535 - n))
 high-fits n h k = rw (high-is n h k) (record { sfits = omega arith })
 
-pub signed-high : (n : ℕ) → 32768 ≤ n → n < 65536 → toZ w32 (ofZ w32 (negsuc 0 -ℤ toZ w32 (65535 - n))) ≡ signed n
+pub signed-high : (n : ℕ) → 32768 ≤ n → n < 65536 → toZ w32 (ofZ w32 (negsuc 0 -ℤ toZ w32 (65535 - n))) ≡ twosComplement n
 signed-high n h k = toZ-ofZ (high-fits n h k) ∙ high-is n h k ∙ rw (le-ltb n 32768 h)

@@ -3,14 +3,14 @@ ghost use mathlib.Core.Path.{_≡_};
 ghost use Prim.Native.Nat.{_≤_, _<_};
 ghost use lib.ListN.{length, take, drop};
 ghost use lib.Ieee.{binary32, binary64};
-ghost use Rattle.lexical_float.specs.Encoding.{formatOf};
+ghost use Rattle.lexical_float.specs.Encoding.{ofWidth};
 ghost use Rattle.lexical_rewrite_spec.specs.Rewrite.{readIn, rewriteAnswer, rewriteBytes};
-ghost use Rattle.lexical_rewrite_spec.specs.Record.{formatOf as recordFormat, formatsOf};
+ghost use Rattle.lexical_rewrite_spec.specs.Record.{formatOfRecord, formatsOf};
 ghost use Rattle.lexical_rewrite_spec.specs.Chain.{atStation, chainOf};
 ghost use Rattle.lexical_rewrite_spec.specs.Demand.{NeverLost};
 ghost use Rattle.lexical_rewrite.specs.Answer.{ofRewritten, ofChained};
 ghost use Rattle.lexical_rewrite.specs.Code.{onFrom, sourceAt};
-use crate::record::format_of;
+use crate::record::format_of_record;
 use crate::rewrite::Rewritten;
 use crate::rewrite::rewrite_f32;
 use crate::rewrite::rewrite_f64;
@@ -48,8 +48,8 @@ fn station_into(
     buffer: &mut [u8],
     width: Width,
 ) -> Rewritten
-    ensures { λ r. ⌜ ofRewritten r ≡ rewriteAnswer to (now (buffer .entry)) (readIn (formatOf width) from (now (text .entry))) ⌝ }
-    ensures { λ _. ⌜ now (buffer .exit) ≡ rewriteBytes to (now (buffer .entry)) (readIn (formatOf width) from (now (text .entry))) ⌝ }
+    ensures { λ r. ⌜ ofRewritten r ≡ rewriteAnswer to (now (buffer .entry)) (readIn (ofWidth width) from (now (text .entry))) ⌝ }
+    ensures { λ _. ⌜ now (buffer .exit) ≡ rewriteBytes to (now (buffer .entry)) (readIn (ofWidth width) from (now (text .entry))) ⌝ }
 {
     match width {
         Width::Binary32 => rewrite_f32(text, from, to, buffer),
@@ -66,8 +66,8 @@ fn station_within(
     width: Width,
 ) -> Rewritten
     requires { ⌜ count ≤ length (now buffer) ⌝ }
-    ensures { λ r. ⌜ ofRewritten r ≡ rewriteAnswer to (now (buffer .entry)) (readIn (formatOf width) from (take count (now (buffer .entry)))) ⌝ }
-    ensures { λ _. ⌜ now (buffer .exit) ≡ rewriteBytes to (now (buffer .entry)) (readIn (formatOf width) from (take count (now (buffer .entry)))) ⌝ }
+    ensures { λ r. ⌜ ofRewritten r ≡ rewriteAnswer to (now (buffer .entry)) (readIn (ofWidth width) from (take count (now (buffer .entry)))) ⌝ }
+    ensures { λ _. ⌜ now (buffer .exit) ≡ rewriteBytes to (now (buffer .entry)) (readIn (ofWidth width) from (take count (now (buffer .entry)))) ⌝ }
 {
     match width {
         Width::Binary32 => {
@@ -84,9 +84,9 @@ fn station_within(
 // The format of the record that begins at a place.
 fn format_at(bytes: &[u8], at: usize) -> TextFormat
     requires { ⌜ at ≤ length (now bytes) ⌝ }
-    ensures { λ r. ⌜ r ≡ recordFormat (drop at (now (bytes .entry))) ⌝ }
+    ensures { λ r. ⌜ r ≡ formatOfRecord (drop at (now (bytes .entry))) ⌝ }
 {
-    format_of(&bytes[at..])
+    format_of_record(&bytes[at..])
 }
 
 // The format of the text that the station of the record at a place reads: that of the station before it.
@@ -111,8 +111,8 @@ fn chain_further(
     width: Width,
 ) -> Chained
     requires { ⌜ (length (now scratch) ≡ 2275) × (written ≤ 2275) × (0 < length (now further)) ⌝ }
-    ensures { λ r. ⌜ ofChained r ≡ onFrom (formatOf width) 1 first (take written (now (scratch .entry))) (now (further .entry)) (now (buffer .entry)) .answer ⌝ }
-    ensures { λ _. ⌜ now (buffer .exit) ≡ onFrom (formatOf width) 1 first (take written (now (scratch .entry))) (now (further .entry)) (now (buffer .entry)) .bytes ⌝ }
+    ensures { λ r. ⌜ ofChained r ≡ onFrom (ofWidth width) 1 first (take written (now (scratch .entry))) (now (further .entry)) (now (buffer .entry)) .answer ⌝ }
+    ensures { λ _. ⌜ now (buffer .exit) ≡ onFrom (ofWidth width) 1 first (take written (now (scratch .entry))) (now (further .entry)) (now (buffer .entry)) .bytes ⌝ }
 {
     let mut count = written;
     let mut station = 1;
@@ -143,8 +143,8 @@ fn chain(
     buffer: &mut [u8],
     width: Width,
 ) -> Chained
-    ensures { λ r. ⌜ ofChained r ≡ chainOf (formatOf width) from (now (text .entry)) first (formatsOf (now (further .entry))) (now (buffer .entry)) .answer ⌝ }
-    ensures { λ _. ⌜ now (buffer .exit) ≡ chainOf (formatOf width) from (now (text .entry)) first (formatsOf (now (further .entry))) (now (buffer .entry)) .bytes ⌝ }
+    ensures { λ r. ⌜ ofChained r ≡ chainOf (ofWidth width) from (now (text .entry)) first (formatsOf (now (further .entry))) (now (buffer .entry)) .answer ⌝ }
+    ensures { λ _. ⌜ now (buffer .exit) ≡ chainOf (ofWidth width) from (now (text .entry)) first (formatsOf (now (further .entry))) (now (buffer .entry)) .bytes ⌝ }
 {
     if further.len() == 0 {
         return at_station(0, station_into(text, from, first, buffer, width));

@@ -1,7 +1,7 @@
 // A format from its record of 19 bytes. Bytes that are missing count as 0.
 ghost use mathlib.Core.Path.{_≡_};
 ghost use Prim.Native.Nat.{_<_};
-ghost use Rattle.lexical_rewrite_spec.specs.Record.{byteAt, flagAt, modeAt, wordAt, signed, numberFormatOf, optionsOf, formatOf};
+ghost use Rattle.lexical_rewrite_spec.specs.Record.{byteAt, flagAt, modeAt, wordAt, twosComplement, numberFormatOfRecord, optionsOfRecord, formatOfRecord};
 use lexical_format::NumberFormat;
 use lexical_format::Options;
 use lexical_format::RoundMode;
@@ -41,7 +41,7 @@ fn word_at(bytes: &[u8], at: usize) -> u32
 
 fn signed_at(bytes: &[u8], at: usize) -> i32
     requires { ⌜ at < 19 ⌝ }
-    ensures { λ r. ⌜ r ≡ signed (wordAt (now (bytes .entry)) at) ⌝ }
+    ensures { λ r. ⌜ r ≡ twosComplement (wordAt (now (bytes .entry)) at) ⌝ }
 {
     let word = word_at(bytes, at);
     if word < 32768 {
@@ -51,8 +51,8 @@ fn signed_at(bytes: &[u8], at: usize) -> i32
     -1 - below as i32
 }
 
-fn number_format_of(bytes: &[u8]) -> NumberFormat
-    ensures { λ r. ⌜ r ≡ numberFormatOf (now (bytes .entry)) ⌝ }
+fn number_format_of_record(bytes: &[u8]) -> NumberFormat
+    ensures { λ r. ⌜ r ≡ numberFormatOfRecord (now (bytes .entry)) ⌝ }
 {
     NumberFormat {
         mantissa_radix: byte_at(bytes, 0) as u32,
@@ -65,8 +65,8 @@ fn number_format_of(bytes: &[u8]) -> NumberFormat
     }
 }
 
-fn options_of(bytes: &[u8]) -> Options
-    ensures { λ r. ⌜ r ≡ optionsOf (now (bytes .entry)) ⌝ }
+fn options_of_record(bytes: &[u8]) -> Options
+    ensures { λ r. ⌜ r ≡ optionsOfRecord (now (bytes .entry)) ⌝ }
 {
     Options {
         max_significant_digits: word_at(bytes, 9),
@@ -81,11 +81,11 @@ fn options_of(bytes: &[u8]) -> Options
 }
 
 // The format of the record in front.
-pub fn format_of(bytes: &[u8]) -> TextFormat
-    ensures { λ r. ⌜ r ≡ formatOf (now (bytes .entry)) ⌝ }
+pub fn format_of_record(bytes: &[u8]) -> TextFormat
+    ensures { λ r. ⌜ r ≡ formatOfRecord (now (bytes .entry)) ⌝ }
 {
     TextFormat {
-        format: number_format_of(bytes),
-        options: options_of(bytes),
+        format: number_format_of_record(bytes),
+        options: options_of_record(bytes),
     }
 }

@@ -15,7 +15,7 @@ use Rattle.lexical_format.specs.declared.options.RoundMode.the-variants.{Round,
 use Rattle.lexical_format.specs.Format.{orAbsent, lowBreak, outside, badBreaks}
 use Rattle.lexical_format.proofs.FormatLaws.{neither, writable}
 use Rattle.lexical_rewrite_spec.specs.declared.text_format.TextFormat.{TextFormat}
-use Rattle.lexical_rewrite_spec.specs.Record.{signed, numberFormatOf, optionsOf, formatOf, recordsOf, formatsOf, flagByte, modeByte, wordOf, recordOf, joined, FitsWord}
+use Rattle.lexical_rewrite_spec.specs.Record.{twosComplement, numberFormatOfRecord, optionsOfRecord, formatOfRecord, recordsOf, formatsOf, flagByte, modeByte, wordOf, recordOf, joined, FitsWord}
 use Rattle.lexical_rewrite_spec.specs.Demand.{RecordIsBytes, RecordIsReadBack, RecordsAreReadBack, AdmittedFits}
 
 count-none : (n : ℕ) → n ≡ 0 → (n + 18) / 19 ≡ 0
@@ -28,7 +28,7 @@ pub no-records : (bytes : List ℕ) → length bytes ≡ 0 → formatsOf bytes �
 unfolding formatsOf recordsOf
 no-records bytes h = rw (count-none (length bytes) h)
 
-pub more-records : (bytes : List ℕ) → 0 < length bytes → formatsOf bytes ≡ formatOf bytes ∷ formatsOf (drop 19 bytes)
+pub more-records : (bytes : List ℕ) → 0 < length bytes → formatsOf bytes ≡ formatOfRecord bytes ∷ formatsOf (drop 19 bytes)
 unfolding formatsOf recordsOf
 more-records bytes h = rw (count-more (length bytes) h, length-drop 19 bytes)
 
@@ -44,14 +44,14 @@ mode-back Truncate = refl
 word-back : (n : ℕ) → n % 256 + 256 * (n / 256) ≡ n
 word-back n = omega arith
 
-signed-back : (z : ℤ) → FitsWord z → signed (wordOf z % 256 + 256 * (wordOf z / 256)) ≡ z
+signed-back : (z : ℤ) → FitsWord z → twosComplement (wordOf z % 256 + 256 * (wordOf z / 256)) ≡ z
 signed-back (pos n) h = rw (word-back n, lt-ltb n 32768 h)
 signed-back (negsuc n) h =
     let twice : 65535 - (65535 - n) ≡ n = omega arith in
     rw (word-back (65535 - n), le-ltb (65535 - n) 32768 (omega arith), twice)
 
 pub record-is-read-back : RecordIsReadBack
-unfolding recordOf numberFormatOf optionsOf
+unfolding recordOf numberFormatOfRecord optionsOfRecord
 record-is-read-back G rest fits =
     let F = G .format in
     let o = G .options in

@@ -28,7 +28,7 @@ use Rattle.lexical_write_float_spec.specs.Text.{least, trim, isScientific, layo
 use Rattle.lexical_write_float_spec.proofs.WriteLaws.{first-place}
 use Rattle.lexical_read_float_spec.specs.Shape.{unsigned, plus, Tail, absent, exponent, Shape}
 use Rattle.lexical_read_float_spec.specs.Parse.{withTail}
-use Rattle.lexical_read_float_spec.specs.Read.{magnitude, isNegative, numerator, denominator}
+use Rattle.lexical_read_float_spec.specs.Read.{magnitude, hasMinus, numerator, denominator}
 use Rattle.lexical_rewrite_spec.proofs.TextShape.{noughts, tailOf, pad, scientificShape, negativeShape, positiveShape, shapeIn, shapeOfText}
 use Rattle.lexical_rewrite_spec.proofs.DigitRuns.{value-padded}
 use Rattle.lexical_rewrite_spec.proofs.Balance.{Balanced, balance}
@@ -42,10 +42,10 @@ module _ (F : NumberFormat) (o : Options) (row : Pair) (R : Readable F o row) wh
 
   -- the power of two that the exponent multiplies by, and the one that it divides by
   abbrev gains : Tail → ℕ
-  gains τ = cond (isNegative τ) 0 (row .c * magnitude E τ)
+  gains τ = cond (hasMinus τ) 0 (row .c * magnitude E τ)
 
   abbrev loses : Tail → ℕ
-  loses τ = cond (isNegative τ) (row .c * magnitude E τ) 0
+  loses τ = cond (hasMinus τ) (row .c * magnitude E τ) 0
 
   -- ---- a shape whose digits are ds with zeros in front and behind, and which balances the place p of their first
   record Laid (ds : List ℕ) (p : ℤ) (s : Shape) : Type 0 where
@@ -62,12 +62,12 @@ module _ (F : NumberFormat) (o : Options) (row : Pair) (R : Readable F o row) wh
   unfolding numerator
   numerator-is ds p s l =
       let v : digitsValue (2 ^ b) (s .whole ++ s .fraction) ≡ digitsValue (2 ^ b) ds * 2 ^ (b * l .behind) = ap (digitsValue (2 ^ b)) (l .all) ∙ value-padded (2 ^ b) (l .before) (l .behind) ds ∙ ap (λ (x : ℕ). digitsValue (2 ^ b) ds * x) (pow-mul 2 b (l .behind)) in
-      ap₂ (λ (x y : ℕ). x * y) v (picked (isNegative (s .tail)) (row .c * magnitude E (s .tail)) .0)
+      ap₂ (λ (x y : ℕ). x * y) v (picked (hasMinus (s .tail)) (row .c * magnitude E (s .tail)) .0)
       ∙ mul-assoc (digitsValue (2 ^ b) ds) (2 ^ (b * l .behind)) (2 ^ gains (s .tail)) ∙ ap (λ (x : ℕ). digitsValue (2 ^ b) ds * x) (sym (pow-add 2 (b * l .behind) (gains (s .tail))))
 
   denominator-is : (s : Shape) → denominator row E s ≡ 2 ^ (b * length (s .fraction) + loses (s .tail))
   unfolding denominator
-  denominator-is s = ap (λ (x : ℕ). 2 ^ (b * length (s .fraction)) * x) (picked (isNegative (s .tail)) (row .c * magnitude E (s .tail)) .1) ∙ sym (pow-add 2 (b * length (s .fraction)) (loses (s .tail)))
+  denominator-is s = ap (λ (x : ℕ). 2 ^ (b * length (s .fraction)) * x) (picked (hasMinus (s .tail)) (row .c * magnitude E (s .tail)) .1) ∙ sym (pow-add 2 (b * length (s .fraction)) (loses (s .tail)))
 
   -- ---- the exponent is worth b bits for each digit of p
   magnitude-is : (p : ℤ) → row .c * magnitude E (tailOf F o row p) ≡ b * natAbs p
@@ -75,10 +75,10 @@ module _ (F : NumberFormat) (o : Options) (row : Pair) (R : Readable F o row) wh
       let q = radix-bounds E (R .power) in
       ap (λ (x : ℕ). row .c * x) (digits-value E (q .0) (power (row .b) (row .c) p)) ∙ mul-comm (row .c) (power (row .b) (row .c) p) ∙ power-whole row p (R .pair) ∙ mul-comm (natAbs p) (row .b)
 
-  not-negative : (p : ℕ) → isNegative (tailOf F o row (pos p)) ≡ false
+  not-negative : (p : ℕ) → hasMinus (tailOf F o row (pos p)) ≡ false
   not-negative p = go (F .«required_exponent_sign»)
     where
-      go : (t : Bool) → isNegative (exponent (cond t plus unsigned) (digits E (power (row .b) (row .c) (pos p)))) ≡ false
+      go : (t : Bool) → hasMinus (exponent (cond t plus unsigned) (digits E (power (row .b) (row .c) (pos p)))) ≡ false
       go true = refl
       go false = refl
 

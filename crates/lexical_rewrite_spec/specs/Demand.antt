@@ -13,7 +13,7 @@ use Rattle.lexical_rewrite_spec.specs.declared.text_format.TextFormat.{T
 use Rattle.lexical_rewrite_spec.specs.Claims.{Denotes}
 use Rattle.lexical_rewrite_spec.specs.Rewrite.{Rewriting, rewritten, readIn, textIn, rewriteAnswer, rewriteBytes}
 use Rattle.lexical_rewrite_spec.specs.Chain.{Station, Chained, arrived, lastStation, chain, lastFormat}
-use Rattle.lexical_rewrite_spec.specs.Record.{formatOf, formatsOf, recordOf, joined, FitsRecord}
+use Rattle.lexical_rewrite_spec.specs.Record.{formatOfRecord, formatsOf, recordOf, joined, FitsRecord}
 
 -- the reader accepts t under F, and its float is x: none of the reader's checks refuses it, and x is what its rounding rule picks
 abbrev pub IsFloatOf : Format → TextFormat → List ℕ → Float → Type 0
@@ -82,7 +82,7 @@ RecordIsBytes = (G : TextFormat) → FitsRecord G → All (λ b. b < 256) (recor
 
 -- is read back as that format, whatever follows it,
 abbrev pub RecordIsReadBack : Type 0
-RecordIsReadBack = (G : TextFormat) (rest : List ℕ) → FitsRecord G → formatOf (recordOf G ++ rest) ≡ G
+RecordIsReadBack = (G : TextFormat) (rest : List ℕ) → FitsRecord G → formatOfRecord (recordOf G ++ rest) ≡ G
 
 -- and so is every list of them, as a chain is given it
 abbrev pub RecordsAreReadBack : Type 0

@@ -28,12 +28,12 @@ abbrev pub wordAt : List ℕ → ℕ → ℕ
 wordAt bytes k = byteAt bytes k + 256 * byteAt bytes (k + 1)
 
 -- and as a signed number, two's complement
-abbrev pub signed : ℕ → ℤ
-signed n = cond (ltb n 32768) (pos n) (negsuc (65535 - n))
+abbrev pub twosComplement : ℕ → ℤ
+twosComplement n = cond (ltb n 32768) (pos n) (negsuc (65535 - n))
 
 -- the format of the record in front
-unfoldable pub numberFormatOf : List ℕ → NumberFormat
-numberFormatOf bytes = record {
+unfoldable pub numberFormatOfRecord : List ℕ → NumberFormat
+numberFormatOfRecord bytes = record {
   «mantissa_radix» = byteAt bytes 0;
   «exponent_base» = byteAt bytes 1;
   «exponent_radix» = byteAt bytes 2;
@@ -43,25 +43,25 @@ numberFormatOf bytes = record {
   «no_exponent_without_fraction» = flagAt bytes 6;
 }
 
-unfoldable pub optionsOf : List ℕ → Options
-optionsOf bytes = record {
+unfoldable pub optionsOfRecord : List ℕ → Options
+optionsOfRecord bytes = record {
   «max_significant_digits» = wordAt bytes 9;
   «min_significant_digits» = wordAt bytes 11;
-  «positive_exponent_break» = signed (wordAt bytes 13);
-  «negative_exponent_break» = signed (wordAt bytes 15);
+  «positive_exponent_break» = twosComplement (wordAt bytes 13);
+  «negative_exponent_break» = twosComplement (wordAt bytes 15);
   «round_mode» = modeAt bytes 8;
   «trim_floats» = flagAt bytes 7;
   exponent = byteAt bytes 18;
   «decimal_point» = byteAt bytes 17;
 }
 
-abbrev pub formatOf : List ℕ → TextFormat
-formatOf bytes = record { format = numberFormatOf bytes; options = optionsOf bytes }
+abbrev pub formatOfRecord : List ℕ → TextFormat
+formatOfRecord bytes = record { format = numberFormatOfRecord bytes; options = optionsOfRecord bytes }
 
 -- n records, one behind the other
 unfoldable pub recordsOf : ℕ → List ℕ → List TextFormat
 recordsOf zero bytes = []
-recordsOf (suc n) bytes = formatOf bytes ∷ recordsOf n (drop 19 bytes)
+recordsOf (suc n) bytes = formatOfRecord bytes ∷ recordsOf n (drop 19 bytes)
 
 -- all of them, the last one perhaps cut off
 unfoldable pub formatsOf : List ℕ → List TextFormat

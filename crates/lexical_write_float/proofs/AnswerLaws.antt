@@ -30,7 +30,7 @@ use Rattle.lexical_write_float_spec.specs.Value.{Value, exactDigits}
 use Rattle.lexical_write_float_spec.specs.Text.{layoutOf, digitsSoFar, laidOut, text, exponentText}
 use Rattle.lexical_write_float_spec.specs.Write.{limitedText, floatText, writeText, NoLonger, NeverRefused}
 use Rattle.lexical_write_float_spec.specs.Range.{Between}
-use Rattle.lexical_write_float.specs.Code.{Passed, rowOf, OfFloat, partsText, askedByParts}
+use Rattle.lexical_write_float.specs.Code.{Passed, checkedRow, OfFloat, partsText, askedByParts}
 use Rattle.lexical_write_float.proofs.FloatLaws.{float-normal}
 use Rattle.lexical_write_float_spec.proofs.WriteLaws.{longest-text}
 
@@ -44,11 +44,11 @@ passed F o c e = go (writingFormat F o) refl e
     go (refused n p) w e = absurd (refused-done n p c (sym e))
 
 -- a text takes no more of the pair's row than its two bit counts
-row-text : (F : NumberFormat) (o : Options) (row : Pair) (m : ℕ) (e : ℤ) → text F o (rowOf (settled o row)) m e ≡ text F o row m e
+row-text : (F : NumberFormat) (o : Options) (row : Pair) (m : ℕ) (e : ℤ) → text F o (checkedRow (settled o row)) m e ≡ text F o row m e
 unfolding text
 row-text F o row m e = go (exactDigits (row .b) m e) (place (row .b) (scale m e)) (digitsSoFar F o m (exactDigits (row .b) m e)) (layoutOf F o (scale m e))
   where
-    go : (D : List ℕ) (p : ℤ) (soFar : ℕ) (l : Layout) → laidOut F o (rowOf (settled o row)) D p soFar l ≡ laidOut F o row D p soFar l
+    go : (D : List ℕ) (p : ℤ) (soFar : ℕ) (l : Layout) → laidOut F o (checkedRow (settled o row)) D p soFar l ≡ laidOut F o row D p soFar l
     go D p soFar layouts.Scientific = unfold exponentText in refl
     go D p soFar layouts.Negative = refl
     go D p soFar layouts.Positive = refl
@@ -92,7 +92,7 @@ own-text f F o (inf s) row t v = refl
 own-text f F o (fin true m e) row t v = refl
 own-text f F o (fin false m e) row t v =
     let x : Float = fin false m e in
-    ap done (ap (λ (y : Value). limitedText F o (rowOf (settled o row)) (y .m) (y .e)) (float-normal f m (mantissa f x) e (exponent f x) t v) ∙ (unfold limitedText in row-text F o row _ _))
+    ap done (ap (λ (y : Value). limitedText F o (checkedRow (settled o row)) (y .m) (y .e)) (float-normal f m (mantissa f x) e (exponent f x) t v) ∙ (unfold limitedText in row-text F o row _ _))
 
 parts-text : (f : Format) (F : NumberFormat) (o : Options) (x : Float) (r : Parts) → T (fits f x) → r ≡ partsOf f x → IsValue x r → askedByParts F o r ≡ writeText F o x
 unfolding checkedFormat writeText

@@ -22,7 +22,7 @@ use Rattle.lexical_write_float_spec.specs.Limit.{limited}
 use Rattle.lexical_write_float_spec.specs.Text.{text}
 use Rattle.lexical_write_float_spec.specs.Write.{limitedText}
 use Rattle.lexical_write_float_spec.specs.Range.{Between, Ranged}
-use Rattle.lexical_write_float.specs.Code.{ofMagnitude, FloatParts, rowOf, magnitudeText}
+use Rattle.lexical_write_float.specs.Code.{ofMagnitude, FloatParts, checkedRow, magnitudeText}
 use Rattle.lexical_write_float_spec.proofs.Integers.{between-wider}
 use Rattle.lexical_write_float_spec.proofs.ValueLaws.{is-normal, odd-unique}
 use Rattle.lexical_write_float_spec.proofs.RangeLaws.{in-range, limited-fits}
@@ -114,8 +114,8 @@ module _ (v : Magnitude) (P : FloatParts v) (r : Magnitude) (q : ofMagnitude r �
       subst (λ (x : Value). Ranged (x .m) (x .e)) (sym w) (limited-fits (P .width) mode b k (P .m) (P .e) B (P .fits-width))
 
   pub limited-text : (F : NumberFormat) (o : Options) (c : CheckedFormat) (t : Magnitude) → ofMagnitude t ≡ limited (o .«round_mode») (c .b) (o .«max_significant_digits») (r .mantissa) (r .exponent .0)
-      → text F o (rowOf c) (t .mantissa) (t .exponent .0) ≡ magnitudeText F o c v
+      → text F o (checkedRow c) (t .mantissa) (t .exponent .0) ≡ magnitudeText F o c v
   unfolding limitedText
   limited-text F o c t l =
-      ap (λ (x : Value). text F o (rowOf c) (x .m) (x .e)) l
-      ∙ ap (λ (x : Value). let w = limited (o .«round_mode») (c .b) (o .«max_significant_digits») (x .m) (x .e) in text F o (rowOf c) (w .m) (w .e)) q
+      ap (λ (x : Value). text F o (checkedRow c) (x .m) (x .e)) l
+      ∙ ap (λ (x : Value). let w = limited (o .«round_mode») (c .b) (o .«max_significant_digits») (x .m) (x .e) in text F o (checkedRow c) (w .m) (w .e)) q

@@ -20,7 +20,7 @@ use Rattle.lexical_write_float_spec.specs.declared.layout.Layout.the-variants.{
 use Rattle.lexical_write_float.specs.declared.plan.Digits.{Digits}
 use Rattle.lexical_write_float_spec.specs.Value.{exactDigits}
 use Rattle.lexical_write_float_spec.specs.Text.{least, scientific, negative, positive, layoutOf, digitsSoFar, laidOut, text}
-use Rattle.lexical_write_float.specs.Code.{Passed, rowOf, Counted, bodyText, tailText}
+use Rattle.lexical_write_float.specs.Code.{Passed, checkedRow, Counted, bodyText, tailText}
 use Rattle.lexical_write_float.proofs.PowerLaws.{power-is}
 
 -- ---- a format that passed the check
@@ -71,15 +71,15 @@ module _ (F : NumberFormat) (o : Options) (c : CheckedFormat) (m : ℕ) (e : ℤ
 
   -- a plan's text and what stands behind it, layout by layout
   by-layout : (D : List ℕ) (p : ℤ) (soFar : ℕ) (l : Layout)
-      → bodyText F o p soFar l D ++ tailText l (o .exponent) (isNegative p) (F .«required_exponent_sign») (F .«exponent_radix») (power (c .b) (c .c) p) ≡ laidOut F o (rowOf c) D p soFar l
-  by-layout D p soFar Scientific = ap (λ (t : List ℕ). scientific F o D ++ t) (power-is F o (rowOf c) p)
+      → bodyText F o p soFar l D ++ tailText l (o .exponent) (isNegative p) (F .«required_exponent_sign») (F .«exponent_radix») (power (c .b) (c .c) p) ≡ laidOut F o (checkedRow c) D p soFar l
+  by-layout D p soFar Scientific = ap (λ (t : List ℕ). scientific F o D ++ t) (power-is F o (checkedRow c) p)
   by-layout D p soFar Negative = append-nil (negative F o D p)
   by-layout D p soFar Positive = append-nil (positive F o D (natAbs p + 1) soFar)
 
-  laid : IsLaid → laidOut F o (rowOf c) D p soFar l ≡ text F o (rowOf c) m e
+  laid : IsLaid → laidOut F o (checkedRow c) D p soFar l ≡ text F o (checkedRow c) m e
   unfolding text
   laid h = rw (sym (h .layout-is), h .so-far-is, h .digits-are, h .place-is) refl
 
   pub laid-text : IsLaid → (negative : Bool) (n : ℕ) → negative ≡ isNegative p → n ≡ power (c .b) (c .c) p
-      → bodyText F o p soFar l D ++ tailText l (o .exponent) negative (F .«required_exponent_sign») (F .«exponent_radix») n ≡ text F o (rowOf c) m e
+      → bodyText F o p soFar l D ++ tailText l (o .exponent) negative (F .«required_exponent_sign») (F .«exponent_radix») n ≡ text F o (checkedRow c) m e
   laid-text h negative n e k = rw (e, k) (by-layout D p soFar l ∙ laid h)

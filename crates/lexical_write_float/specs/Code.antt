@@ -49,8 +49,8 @@ pub record Passed (F : NumberFormat) (o : Options) (checked : CheckedFormat) : T
   pub is-settled : checked ≡ settled o row
 
 -- its two bit counts, which are all that a text takes of the pair's row
-abbrev pub rowOf : CheckedFormat → Pair
-rowOf checked = pair 0 0 (checked .b) (checked .c)
+abbrev pub checkedRow : CheckedFormat → Pair
+checkedRow checked = pair 0 0 (checked .b) (checked .c)
 
 -- ---- D, and a text by its plan
 -- D by the number that it spells
@@ -120,7 +120,7 @@ pub record Puts (held : List ℕ) (at : ℕ) (t : List ℕ) (next : ℕ) (out : 
 
 -- ---- the text of a magnitude: of the float that has it
 abbrev pub magnitudeText : NumberFormat → Options → CheckedFormat → Magnitude → List ℕ
-magnitudeText F o checked v = let x = normal (v .mantissa) (v .exponent .0) in limitedText F o (rowOf checked) (x .m) (x .e)
+magnitudeText F o checked v = let x = normal (v .mantissa) (v .exponent .0) in limitedText F o (checkedRow checked) (x .m) (x .e)
 
 -- what the parts of a float are asked for: 7 for all but a finite float with the sign bit clear
 abbrev pub partsText : NumberFormat → Options → CheckedFormat → Parts → Answer (List ℕ)

@@ -81,7 +81,7 @@ pub(crate) fn put_plan(buffer: &mut [u8], digits: Digits, plan: Plan, point: u8)
 }
 
 // The length of a planned text and of the exponent, where the layout has one.
-fn text_length(
+fn planned_length(
     count: usize,
     plan: Plan,
     layout: Layout,
@@ -112,7 +112,7 @@ fn has_room(
     if plan.filled + plan.gap + plan.padding + 85 <= room {
         return true;
     }
-    text_length(count, plan, layout, exponent, plus, radix) <= room
+    planned_length(count, plan, layout, exponent, plus, radix) <= room
 }
 
 // A planned text, and the exponent where the layout has one, written if there is room for it. The answer is its length either way.
@@ -134,7 +134,7 @@ pub(crate) fn write_plan(
     let count = digits.count;
     let room = buffer.len();
     if !has_room(room, count, plan, layout, exponent, plus, radix) {
-        return text_length(count, plan, layout, exponent, plus, radix);
+        return planned_length(count, plan, layout, exponent, plus, radix);
     }
     let mark = put_plan(buffer, digits, plan, options.decimal_point);
     write_exponent(

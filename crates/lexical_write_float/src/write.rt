@@ -10,7 +10,7 @@ ghost use Rattle.lexical_format.specs.declared.options.Options.{Options};
 ghost use Rattle.lexical_write_float_spec.specs.Value.{exactDigits};
 ghost use Rattle.lexical_write_float_spec.specs.Text.{point, least, digitsSoFar, text};
 ghost use Rattle.lexical_write_float_spec.specs.Range.{Ranged};
-ghost use Rattle.lexical_write_float.specs.Code.{FloatParts, Passed, rowOf, Counted, digitsOf, IsPlaced, IsPlan, bodyText, magnitudeText, partsText, askedByParts, OfFloat};
+ghost use Rattle.lexical_write_float.specs.Code.{FloatParts, Passed, checkedRow, Counted, digitsOf, IsPlaced, IsPlan, bodyText, magnitudeText, partsText, askedByParts, OfFloat};
 ghost use Rattle.lexical_write_float_spec.specs.Write.{writeText, NoLonger, NeverRefused};
 use crate::binary::normalized;
 use crate::binary::truncate_and_round;
@@ -123,8 +123,8 @@ fn write_value(
     buffer: &mut [u8],
 ) -> usize
     requires { ⌜ Passed format options checked × Ranged (value .mantissa) (value .exponent .0) ⌝ }
-    ensures { λ r. ⌜ r ≡ length (text format options (rowOf checked) (value .mantissa) (value .exponent .0)) ⌝ }
-    ensures { λ _. ⌜ now (buffer .exit) ≡ held (done (text format options (rowOf checked) (value .mantissa) (value .exponent .0))) (now (buffer .entry)) ⌝ }
+    ensures { λ r. ⌜ r ≡ length (text format options (checkedRow checked) (value .mantissa) (value .exponent .0)) ⌝ }
+    ensures { λ _. ⌜ now (buffer .exit) ≡ held (done (text format options (checkedRow checked) (value .mantissa) (value .exponent .0))) (now (buffer .entry)) ⌝ }
 {
     let s = sci_exp(value);
     let placed = place_by_bits(value, s, checked.b);

@@ -15,7 +15,7 @@ use Rattle.outage_spec.specs.Words.{toBytes}
 use Rattle.outage_spec.specs.Table.{tableSize, columnBytes, tableOf}
 use Rattle.outage_spec.proofs.StoredLaws.{Counted, column-length, table-length}
 use Rattle.outage_spec.proofs.WordLaws.{bytes-length}
-use Rattle.outage_sheet.specs.Fill.{putHeader, putWindow, fill, Filled}
+use Rattle.outage_sheet.specs.Fill.{putHeader, putWindow, fill, FilledTable}
 use Rattle.outage_sheet.proofs.StoreLaws.{put-more, put-behind, put-length, put-swap}
 
 -- ---- the columns
@@ -93,18 +93,18 @@ size-more n w (done ws) = refl
 size-more n w (refused k p) = refl
 
 pub fill-more : (n i : ℕ) (w : Window) (rows : Answer (List Window)) (t t′ : List ℕ) → t′ ≡ putWindow t n i w → length t′ ≡ length t
-    → (o : List ℕ) → Filled n (i + 1) t′ rows o → Filled n i t (withRow w rows) o
+    → (o : List ℕ) → FilledTable n (i + 1) t′ rows o → FilledTable n i t (withRow w rows) o
 unfolding fill
 fill-more n i w (done ws) t t′ e l o f = f ∙ ap (fill n (i + 1) ws) e
 fill-more n i w (refused k p) t t′ e l o f = f ∙ l
 
-pub fill-end : (n i : ℕ) (t : List ℕ) → Filled n i t (done []) t
+pub fill-end : (n i : ℕ) (t : List ℕ) → FilledTable n i t (done []) t
 unfolding fill
 fill-end n i t = refl
 
 -- ---- the table, copied once all rows have been read
 module _ (n : ℕ) (d table : List ℕ) (room : tableSize n ≤ length d) (enough : tableSize n ≤ length table) where
-  pub table-read : (rows : Answer (List Window)) → Counted n rows → (size : ℕ) → done size ≡ sizeOf n rows → (h t : List ℕ) → h ≡ putHeader d n → Filled n 0 h rows t
+  pub table-read : (rows : Answer (List Window)) → Counted n rows → (size : ℕ) → done size ≡ sizeOf n rows → (h t : List ℕ) → h ≡ putHeader d n → FilledTable n 0 h rows t
       → (out : List ℕ) → out ≡ take size t ++ drop (length (take size t)) table → (done size ≡ written (tableFrom rows) table) × (out ≡ held (tableFrom rows) table)
   table-read (refused k p) count size e h t g f out o = absurd (refused-done k p size (sym e))
   table-read (done ws) count size e h t g f out o =

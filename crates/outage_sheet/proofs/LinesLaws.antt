@@ -12,7 +12,7 @@ use Rattle.lexical_format.specs.declared.options.Options.{Options}
 use Rattle.outage_spec.specs.declared.window.Window.{Window}
 use Rattle.outage_spec.specs.Table.{tableSize}
 use Rattle.outage_spec.specs.Sheet.{before, fieldsWindow, lineWindow, rowIn, linesFrom}
-use Rattle.outage_sheet.specs.Fill.{putWindow, Filled}
+use Rattle.outage_sheet.specs.Fill.{putWindow, FilledTable}
 use Rattle.outage_sheet.proofs.FillLaws.{sizeOf, withRow, size-more, fill-more, fill-end}
 
 module _ (F : NumberFormat) (o : Options) where
@@ -53,7 +53,7 @@ module _ (F : NumberFormat) (o : Options) where
 -- ---- the loop that reads: what is left of the n rows from row i on, at p in the sheet, with the table so far, against all of them, which stand from start on
 pub record Left (F : NumberFormat) (o : Options) (s : List ℕ) (start n : ℕ) (t₀ : List ℕ) (i p : ℕ) (t : List ℕ) : Type 0 where
   pub size : sizeOf n (linesFrom F o (n - i) p none (drop p s)) ≡ sizeOf n (linesFrom F o n start none (drop start s))
-  pub bytes : (out : List ℕ) → Filled n i t (linesFrom F o (n - i) p none (drop p s)) out → Filled n 0 t₀ (linesFrom F o n start none (drop start s)) out
+  pub bytes : (out : List ℕ) → FilledTable n i t (linesFrom F o (n - i) p none (drop p s)) out → FilledTable n 0 t₀ (linesFrom F o n start none (drop start s)) out
   pub same : length t ≡ length t₀
 
 module _ (F : NumberFormat) (o : Options) (s : List ℕ) (start n : ℕ) (t₀ : List ℕ) where
@@ -73,17 +73,17 @@ module _ (F : NumberFormat) (o : Options) (s : List ℕ) (start n : ℕ) (t₀ :
         }
 
     left-refused : (k q : ℕ) → linesFrom F o (n - i) p none (drop p s) ≡ refused k q
-        → (refused k q ≡ sizeOf n (linesFrom F o n start none (drop start s))) × Filled n 0 t₀ (linesFrom F o n start none (drop start s)) t
+        → (refused k q ≡ sizeOf n (linesFrom F o n start none (drop start s))) × FilledTable n 0 t₀ (linesFrom F o n start none (drop start s)) t
     left-refused k q e = (sym (ap (sizeOf n) e) ∙ left .size, left .bytes t (rw e refl))
 
     pub left-stop : (k q : ℕ) → i < n → rowIn F o none (drop p s) ≡ refused k q
-        → (refused k (p + q) ≡ sizeOf n (linesFrom F o n start none (drop start s))) × Filled n 0 t₀ (linesFrom F o n start none (drop start s)) t
+        → (refused k (p + q) ≡ sizeOf n (linesFrom F o n start none (drop start s))) × FilledTable n 0 t₀ (linesFrom F o n start none (drop start s)) t
     left-stop k q h e = left-refused k (p + q) (lines-stop F o s n i p k q h e)
 
-    pub left-extra : n ≤ i → p < length s → (refused 15 p ≡ sizeOf n (linesFrom F o n start none (drop start s))) × Filled n 0 t₀ (linesFrom F o n start none (drop start s)) t
+    pub left-extra : n ≤ i → p < length s → (refused 15 p ≡ sizeOf n (linesFrom F o n start none (drop start s))) × FilledTable n 0 t₀ (linesFrom F o n start none (drop start s)) t
     left-extra h k = left-refused 15 p (lines-extra F o s n i p h k)
 
-    pub left-none : n ≤ i → length s ≤ p → (done (tableSize n) ≡ sizeOf n (linesFrom F o n start none (drop start s))) × Filled n 0 t₀ (linesFrom F o n start none (drop start s)) t
+    pub left-none : n ≤ i → length s ≤ p → (done (tableSize n) ≡ sizeOf n (linesFrom F o n start none (drop start s))) × FilledTable n 0 t₀ (linesFrom F o n start none (drop start s)) t
     left-none h k =
         let e = lines-end F o s n i p h k in
         (sym (ap (sizeOf n) e) ∙ left .size, left .bytes t (rw e (fill-end n i t)))

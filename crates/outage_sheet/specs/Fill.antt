@@ -29,6 +29,6 @@ fill n i [] t = t
 fill n i (w ∷ ws) t = fill n (i + 1) ws (putWindow t n i w)
 
 -- what a table holds once the rows from row i on were read; where one was refused, nothing is said of its bytes
-abbrev pub Filled : ℕ → ℕ → List ℕ → Answer (List Window) → List ℕ → Type 0
-Filled n i t (done ws) o = o ≡ fill n i ws t
-Filled n i t (refused k p) o = length o ≡ length t
+abbrev pub FilledTable : ℕ → ℕ → List ℕ → Answer (List Window) → List ℕ → Type 0
+FilledTable n i t (done ws) o = o ≡ fill n i ws t
+FilledTable n i t (refused k p) o = length o ≡ length t

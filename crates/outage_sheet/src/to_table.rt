@@ -7,7 +7,7 @@ ghost use Rattle.lexical_util.specs.Answer.{done, andThen, written, held, ofWri
 ghost use Rattle.outage_spec.specs.Table.{tableSize, tableOf};
 ghost use Rattle.outage_spec.specs.Sheet.{linesFrom};
 ghost use Rattle.outage_spec.specs.Calls.{countedTable, sheetTable};
-ghost use Rattle.outage_sheet.specs.Fill.{Filled};
+ghost use Rattle.outage_sheet.specs.Fill.{FilledTable};
 use crate::row::row_in;
 use crate::store::copy;
 use crate::store::put_header;
@@ -34,7 +34,7 @@ fn read_rows(
 ) -> Written
     requires { ⌜ (from ≤ length (now sheet)) × (n ≤ 400) × (tableSize n ≤ length (now table)) ⌝ }
     ensures { λ r. ⌜ ofWritten r ≡ andThen (linesFrom format options n from none (drop from (now (sheet .entry)))) (λ ws. done (tableSize n)) ⌝ }
-    ensures { λ _. ⌜ Filled n 0 (now (table .entry)) (linesFrom format options n from none (drop from (now (sheet .entry)))) (now (table .exit)) ⌝ }
+    ensures { λ _. ⌜ FilledTable n 0 (now (table .entry)) (linesFrom format options n from none (drop from (now (sheet .entry)))) (now (table .exit)) ⌝ }
 {
     let mut at = from;
     let mut i: usize = 0;
@@ -86,7 +86,7 @@ fn read_table(
 }
 
 // A sheet under a format that passed: 15 for the count line, 8, then the rows.
-fn read_sheet(sheet: &[u8], format: NumberFormat, options: Options, table: &mut [u8]) -> Written
+fn read_counted(sheet: &[u8], format: NumberFormat, options: Options, table: &mut [u8]) -> Written
     ensures { λ r. ⌜ ofWritten r ≡ written (countedTable format options (now (sheet .entry)) (length (now (table .entry)))) (now (table .entry)) ⌝ }
     ensures { λ _. ⌜ now (table .exit) ≡ held (countedTable format options (now (sheet .entry)) (length (now (table .entry)))) (now (table .entry)) ⌝ }
 {
@@ -124,7 +124,7 @@ pub fn sheet_to_table(
     ensures { λ _. ⌜ now (table .exit) ≡ held (sheetTable format options (now (sheet .entry)) (length (now (table .entry)))) (now (table .entry)) ⌝ }
 {
     match check_reading(format, options) {
-        ReadingCheck::Passed(_) => read_sheet(sheet, format, options, table),
+        ReadingCheck::Passed(_) => read_counted(sheet, format, options, table),
         ReadingCheck::Refused(refusal) => Written::Refused(refusal),
     }
 }

@@ -19,7 +19,7 @@ use Rattle.outage_spec.proofs.TableLaws.{row-passes}
 use Rattle.outage_table.specs.declared.table.Rows.{Rows as Checked}
 use Rattle.outage_table.specs.declared.table.Rows.the-variants.{Passed, Refused}
 use Rattle.outage_table.specs.Count.{AreRows}
-use Rattle.outage_table.specs.Text.{found, rowOf, rowsOf, HasTexts, Admitted}
+use Rattle.outage_table.specs.Text.{contents, rowOf, rowsOf, HasTexts, Admitted}
 use Rattle.outage_table.proofs.TextLaws.{has-text}
 
 -- ---- a row that passed
@@ -74,13 +74,13 @@ module _ (F : NumberFormat) (o : Options) where
 
 -- ---- put: the rows of `rest` have yet to be put at a place; then all of `ws` are put where the pass began
 pub record Going (F : NumberFormat) (o : Options) (ws : List Window) (held : List ℕ) (from : ℕ) (rest : Answer (List Window)) (out : List ℕ) (at : ℕ) : Type 0 where
-  pub whole : rest ≡ done (found rest)
+  pub whole : rest ≡ done (contents rest)
   pub size : length out ≡ length held
-  pub room : at + length (rowsOf F o (found rest)) ≤ length out
-  pub all : (next : ℕ) (last : List ℕ) → Puts out at (rowsOf F o (found rest)) next last → Puts held from (rowsOf F o ws) next last
+  pub room : at + length (rowsOf F o (contents rest)) ≤ length out
+  pub all : (next : ℕ) (last : List ℕ) → Puts out at (rowsOf F o (contents rest)) next last → Puts held from (rowsOf F o ws) next last
 
 module _ (F : NumberFormat) (o : Options) {held : List ℕ} {start : ℕ} where
-  pub going-start : {r : Answer (List Window)} → r ≡ done (found r) → start + length (rowsOf F o (found r)) ≤ length held → Going F o (found r) held start r held start
+  pub going-start : {r : Answer (List Window)} → r ≡ done (contents r) → start + length (rowsOf F o (contents r)) ≤ length held → Going F o (contents r) held start r held start
   going-start e h = record { whole = e; size = refl; room = h; all = λ next last p. p }
 
   module _ {ws : List Window} {out : List ℕ} {at : ℕ} where
@@ -93,17 +93,17 @@ module _ (F : NumberFormat) (o : Options) {held : List ℕ} {start : ℕ} where
 
     module _ (v : Window) (r : Answer (List Window)) (g : Going F o ws held start (andThen r (λ vs. done (v ∷ vs))) out at) where
       -- where all rows passed, those after the first did
-      more : (r ≡ done (found r)) × (rowsOf F o (found (andThen r (λ vs. done (v ∷ vs)))) ≡ rowOf F o v ++ rowsOf F o (found r))
+      more : (r ≡ done (contents r)) × (rowsOf F o (contents (andThen r (λ vs. done (v ∷ vs)))) ≡ rowOf F o v ++ rowsOf F o (contents r))
       unfolding rowsOf
       more = go r (g .whole)
         where
-          go : (r : Answer (List Window)) → andThen r (λ vs. done (v ∷ vs)) ≡ done (found (andThen r (λ vs. done (v ∷ vs))))
-              → (r ≡ done (found r)) × (rowsOf F o (found (andThen r (λ vs. done (v ∷ vs)))) ≡ rowOf F o v ++ rowsOf F o (found r))
+          go : (r : Answer (List Window)) → andThen r (λ vs. done (v ∷ vs)) ≡ done (contents (andThen r (λ vs. done (v ∷ vs))))
+              → (r ≡ done (contents r)) × (rowsOf F o (contents (andThen r (λ vs. done (v ∷ vs)))) ≡ rowOf F o v ++ rowsOf F o (contents r))
           go (done vs) e = (refl, refl)
           go (refused k p) e = absurd (refused-done k p [] e)
 
-      more-length : length (rowsOf F o (found (andThen r (λ vs. done (v ∷ vs))))) ≡ length (rowOf F o v) + length (rowsOf F o (found r))
-      more-length = ap length (more .1) ∙ length-append (rowOf F o v) (rowsOf F o (found r))
+      more-length : length (rowsOf F o (contents (andThen r (λ vs. done (v ∷ vs))))) ≡ length (rowOf F o v) + length (rowsOf F o (contents r))
+      more-length = ap length (more .1) ∙ length-append (rowOf F o v) (rowsOf F o (contents r))
 
       pub going-room : at + length (rowOf F o v) ≤ length out
       going-room = omega (arith, g .room, more-length)

@@ -29,16 +29,16 @@ use Rattle.outage_spec.proofs.FormatLaws.{taken}
 use Rattle.outage_spec.proofs.LengthLaws.{longest-sheet, rows-short}
 use Rattle.outage_spec.proofs.TableLaws.{none-left, split, rows-count, rows-sound}
 use Rattle.outage_spec.proofs.WayBackLaws.{way-back}
-use Rattle.outage_table.specs.Text.{found, rowOf, rowsOf, HasTexts, Admitted}
+use Rattle.outage_table.specs.Text.{contents, rowOf, rowsOf, HasTexts, Admitted}
 use Rattle.outage_table.proofs.RowsLaws.{row-texts}
 
 module _ (F : NumberFormat) (o : Options) where
   -- ---- what measuring the rows says
   module _ (r : Answer (List Window)) (a : Answer ℕ) (is : a ≡ andThen r (λ ws. done (length (rowsOf F o ws)))) where
-    pub length-found : (m : ℕ) → a ≡ done m → (r ≡ done (found r)) × (m ≡ length (rowsOf F o (found r)))
+    pub length-found : (m : ℕ) → a ≡ done m → (r ≡ done (contents r)) × (m ≡ length (rowsOf F o (contents r)))
     length-found m e = go r (sym is ∙ e)
       where
-        go : (r : Answer (List Window)) → andThen r (λ ws. done (length (rowsOf F o ws))) ≡ done m → (r ≡ done (found r)) × (m ≡ length (rowsOf F o (found r)))
+        go : (r : Answer (List Window)) → andThen r (λ ws. done (length (rowsOf F o ws))) ≡ done m → (r ≡ done (contents r)) × (m ≡ length (rowsOf F o (contents r)))
         go (done ws) e = (refl, sym (done-same (length (rowsOf F o ws)) m e))
         go (refused k p) e = absurd (refused-done k p m e)
 
@@ -66,16 +66,16 @@ module _ (F : NumberFormat) (o : Options) where
         rw (s .is-all) (rows-text (s .first) (s .others) (row-texts F o A t n i (s .first) (s .is-first)) (rows-are k (suc i) (s .others) (s .is-others)))
 
     -- two texts of at most 2,275 bytes, a space and an LF for each row
-    pub rows-most : rowsFrom t n 0 n ≡ done (found (rowsFrom t n 0 n)) → length (rowsOf F o (found (rowsFrom t n 0 n))) ≤ 4552 * n
+    pub rows-most : rowsFrom t n 0 n ≡ done (contents (rowsFrom t n 0 n)) → length (rowsOf F o (contents (rowsFrom t n 0 n))) ≤ 4552 * n
     rows-most f =
-        let ws = found (rowsFrom t n 0 n) in
+        let ws = contents (rowsFrom t n 0 n) in
         rw (rows-count t n 0 n ws f) at (rows-short F o (A .0) (taken F o (A .0) (A .1)) ws (rows-sound t n 0 n ws f) (rowsOf F o ws) (rows-are n 0 ws f))
 
-    pub windows-sheet : tableCount t ≡ done n → rowsFrom t n 0 n ≡ done (found (rowsFrom t n 0 n))
-        → andThen (tableWindows t) (sheetOf F o) ≡ done (numeral 10 n ++ (10 ∷ rowsOf F o (found (rowsFrom t n 0 n))))
+    pub windows-sheet : tableCount t ≡ done n → rowsFrom t n 0 n ≡ done (contents (rowsFrom t n 0 n))
+        → andThen (tableWindows t) (sheetOf F o) ≡ done (numeral 10 n ++ (10 ∷ rowsOf F o (contents (rowsFrom t n 0 n))))
     unfolding tableWindows sheetOf
     windows-sheet e f =
-        let ws = found (rowsFrom t n 0 n) in
+        let ws = contents (rowsFrom t n 0 n) in
         ap (λ (c : Answer ℕ). andThen (andThen c (λ m. rowsFrom t m 0 m)) (sheetOf F o)) e
         ∙ ap (λ (a : Answer (List Window)). andThen a (sheetOf F o)) f
         ∙ ap (λ (a : Answer (List ℕ)). andThen a (λ s. done (numeral 10 (length ws) ++ (10 ∷ s)))) (rows-are n 0 ws f)
@@ -94,10 +94,10 @@ pub count-digits : (n : ℕ) → n ≤ 400 → (digitCount n 10 ≡ length (nume
 count-digits n h = (count-decimal n ∙ sym (length-numeral 10 n), omega (arith, length-numeral 10 n, count-le 10 (omega arith) 2 n (omega arith)))
 
 -- ---- room that is enough for any n rows is enough for these
-pub room-known : (F : NumberFormat) (o : Options) → Admitted F o → (t : List ℕ) (n room : ℕ) → n ≤ 400 → rowsFrom t n 0 n ≡ done (found (rowsFrom t n 0 n)) → 4 + 4552 * n ≤ room
-    → true ≡ leb (length (numeral 10 n) + 1 + length (rowsOf F o (found (rowsFrom t n 0 n)))) room
+pub room-known : (F : NumberFormat) (o : Options) → Admitted F o → (t : List ℕ) (n room : ℕ) → n ≤ 400 → rowsFrom t n 0 n ≡ done (contents (rowsFrom t n 0 n)) → 4 + 4552 * n ≤ room
+    → true ≡ leb (length (numeral 10 n) + 1 + length (rowsOf F o (contents (rowsFrom t n 0 n)))) room
 room-known F o A t n room few f h =
-    let k : length (numeral 10 n) + 1 + length (rowsOf F o (found (rowsFrom t n 0 n))) ≤ room = omega (arith, count-digits n few .1, rows-most F o A t n f) in
+    let k : length (numeral 10 n) + 1 + length (rowsOf F o (contents (rowsFrom t n 0 n))) ≤ room = omega (arith, count-digits n few .1, rows-most F o A t n f) in
     sym (le-leb _ room k)
 
 -- ---- a sheet of n rows, and the bytes lent

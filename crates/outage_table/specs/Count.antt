@@ -8,7 +8,7 @@ use Rattle.outage_table.specs.declared.table.Count.the-variants.{Rows, W
 use Rattle.outage_table.specs.declared.table.Rows.{Rows as Checked}
 use Rattle.outage_table.specs.declared.table.Rows.the-variants.{Passed, Refused}
 use Rattle.outage_spec.specs.declared.window.Window.{Window}
-use Rattle.outage_table.specs.Text.{found}
+use Rattle.outage_table.specs.Text.{contents}
 
 abbrev pub ofCount : Count → Answer ℕ
 ofCount (Rows n) = done n
@@ -16,5 +16,5 @@ ofCount Wrong = refused 13 0
 
 -- all rows passed, or the first refusal
 abbrev pub AreRows : Checked → Answer (List Window) → Type 0
-AreRows Passed rows = rows ≡ done (found rows)
+AreRows Passed rows = rows ≡ done (contents rows)
 AreRows (Refused r) rows = rows ≡ refused (r .number) (r .place)

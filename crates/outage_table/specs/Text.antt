@@ -12,13 +12,13 @@ use Rattle.outage_spec.specs.declared.window.Window.{Window}
 use Rattle.outage_spec.specs.Calls.{sheetFormat}
 
 -- what an answer has, and nothing where it is a refusal
-abbrev pub found : {A : Type 0} → Answer (List A) → List A
-found (done l) = l
-found (refused n p) = []
+abbrev pub contents : {A : Type 0} → Answer (List A) → List A
+contents (done l) = l
+contents (refused n p) = []
 
 module _ (F : NumberFormat) (o : Options) where
   unfoldable pub textOf : Float → List ℕ
-  textOf x = found (writeText F o x)
+  textOf x = contents (writeText F o x)
 
   unfoldable pub rowOf : Window → List ℕ
   rowOf w = textOf (w .start) ++ (32 ∷ (textOf (w .end) ++ (10 ∷ [])))

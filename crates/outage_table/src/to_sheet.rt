@@ -10,7 +10,7 @@ ghost use Rattle.lexical_write_float.specs.Code.{Puts};
 ghost use Rattle.outage_spec.specs.Table.{tableSize, rowsFrom, tableWindows};
 ghost use Rattle.outage_spec.specs.Sheet.{sheetOf};
 ghost use Rattle.outage_spec.specs.Calls.{tableSheet, LongestSheet, WayBack};
-ghost use Rattle.outage_table.specs.Text.{found, rowsOf, Admitted};
+ghost use Rattle.outage_table.specs.Text.{contents, rowsOf, Admitted};
 use crate::format::check_format;
 use crate::print::put_count;
 use crate::print::put_row;
@@ -59,9 +59,9 @@ fn put_rows(
     options: Options,
 ) -> usize
     requires { ⌜ Admitted format options × (n ≤ 400) × (length (now table) ≡ tableSize n)
-        × (rowsFrom (now table) n 0 n ≡ done (found (rowsFrom (now table) n 0 n)))
-        × (from + length (rowsOf format options (found (rowsFrom (now table) n 0 n))) ≤ length (now sheet)) ⌝ }
-    ensures { λ r. ⌜ Puts (now (sheet .entry)) from (rowsOf format options (found (rowsFrom (now (table .entry)) n 0 n))) r (now (sheet .exit)) ⌝ }
+        × (rowsFrom (now table) n 0 n ≡ done (contents (rowsFrom (now table) n 0 n)))
+        × (from + length (rowsOf format options (contents (rowsFrom (now table) n 0 n))) ≤ length (now sheet)) ⌝ }
+    ensures { λ r. ⌜ Puts (now (sheet .entry)) from (rowsOf format options (contents (rowsFrom (now (table .entry)) n 0 n))) r (now (sheet .exit)) ⌝ }
 {
     let mut at = from;
     let mut row: usize = 0;
@@ -78,10 +78,16 @@ fn put_rows(
 }
 
 // Whether the sheet of rows that have passed has room. It is measured only where the longest of so many rows might have none.
-fn has_room(table: &[u8], n: usize, room: usize, format: NumberFormat, options: Options) -> bool
+fn sheet_has_room(
+    table: &[u8],
+    n: usize,
+    room: usize,
+    format: NumberFormat,
+    options: Options,
+) -> bool
     requires { ⌜ Admitted format options × (n ≤ 400) × (length (now table) ≡ tableSize n)
-        × (rowsFrom (now table) n 0 n ≡ done (found (rowsFrom (now table) n 0 n))) ⌝ }
-    ensures { λ r. ⌜ r ≡ leb (length (numeral 10 n) + 1 + length (rowsOf format options (found (rowsFrom (now (table .entry)) n 0 n)))) room ⌝ }
+        × (rowsFrom (now table) n 0 n ≡ done (contents (rowsFrom (now table) n 0 n))) ⌝ }
+    ensures { λ r. ⌜ r ≡ leb (length (numeral 10 n) + 1 + length (rowsOf format options (contents (rowsFrom (now (table .entry)) n 0 n)))) room ⌝ }
 {
     if room >= 4 + 4552 * n {
         return true;
@@ -101,11 +107,11 @@ fn put_sheet(
     options: Options,
 ) -> Written
     requires { ⌜ Admitted format options × (n ≤ 400) × (length (now table) ≡ tableSize n)
-        × (rowsFrom (now table) n 0 n ≡ done (found (rowsFrom (now table) n 0 n))) ⌝ }
-    ensures { λ r. ⌜ ofWritten r ≡ written (done (numeral 10 n ++ (10 ∷ rowsOf format options (found (rowsFrom (now (table .entry)) n 0 n))))) (now (sheet .entry)) ⌝ }
-    ensures { λ _. ⌜ now (sheet .exit) ≡ held (done (numeral 10 n ++ (10 ∷ rowsOf format options (found (rowsFrom (now (table .entry)) n 0 n))))) (now (sheet .entry)) ⌝ }
+        × (rowsFrom (now table) n 0 n ≡ done (contents (rowsFrom (now table) n 0 n))) ⌝ }
+    ensures { λ r. ⌜ ofWritten r ≡ written (done (numeral 10 n ++ (10 ∷ rowsOf format options (contents (rowsFrom (now (table .entry)) n 0 n))))) (now (sheet .entry)) ⌝ }
+    ensures { λ _. ⌜ now (sheet .exit) ≡ held (done (numeral 10 n ++ (10 ∷ rowsOf format options (contents (rowsFrom (now (table .entry)) n 0 n))))) (now (sheet .entry)) ⌝ }
 {
-    if has_room(table, n, sheet.len(), format, options) {
+    if sheet_has_room(table, n, sheet.len(), format, options) {
         let at = put_count(sheet, n);
         return Written::Length(put_rows(table, n, sheet, at, format, options));
     }

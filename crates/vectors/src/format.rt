@@ -6,7 +6,7 @@ use lexical_format::Options;
 use lexical_format::RoundMode;
 
 // Radix, base and exponent radix from one field on, four flags from another.
-pub(crate) fn format_of(s: &[u8], radix: usize, flags: usize) -> NumberFormat
+pub(crate) fn format_in(s: &[u8], radix: usize, flags: usize) -> NumberFormat
     requires { ⌜ (radix < 32) × (flags < 32) ⌝ }
 {
     NumberFormat {
@@ -28,7 +28,7 @@ fn round_mode(truncate: bool) -> RoundMode {
 }
 
 // Point and mark from one field on; from another whether to trim and to truncate, the least and the most digits, and the breaks, the lower first.
-pub(crate) fn options_of(s: &[u8], point: usize, trim: usize) -> Options
+pub(crate) fn options_in(s: &[u8], point: usize, trim: usize) -> Options
     requires { ⌜ (point < 32) × (trim < 32) ⌝ }
 {
     Options {

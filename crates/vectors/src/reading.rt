@@ -70,8 +70,8 @@ fn call_f32(text: &[u8], format: NumberFormat, options: Options) -> Answer {
 }
 
 fn call(input: &[u8], text: &[u8]) -> Answer {
-    let format = format::format_of(input, RADIX, NONE);
-    let options = format::options_of(input, POINT, NONE);
+    let format = format::format_in(input, RADIX, NONE);
+    let options = format::options_in(input, POINT, NONE);
     if numbers::plain(input, WIDTH, false) == 64 {
         return call_f64(text, format, options);
     }

@@ -46,12 +46,12 @@ fn are_fields(input: &[u8]) -> bool {
 
 fn call(input: &[u8], bytes: &[u8], out: &mut [u8]) -> Answer {
     if is_table(input) {
-        let format = format::format_of(input, 1, 4);
-        let options = format::options_of(input, 8, 10);
+        let format = format::format_in(input, 1, 4);
+        let options = format::options_in(input, 8, 10);
         return answered(table_to_sheet(bytes, format, options, out));
     }
-    let format = format::format_of(input, 1, 8);
-    let options = format::options_of(input, 4, 8);
+    let format = format::format_in(input, 1, 8);
+    let options = format::options_in(input, 4, 8);
     answered(sheet_to_table(bytes, format, options, out))
 }
 

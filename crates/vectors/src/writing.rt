@@ -74,8 +74,8 @@ fn answered(written: Written) -> Answer {
 }
 
 fn call(input: &[u8], out: &mut [u8]) -> Answer {
-    let format = format::format_of(input, RADIX, FLAGS);
-    let options = format::options_of(input, POINT, TRIM);
+    let format = format::format_in(input, RADIX, FLAGS);
+    let options = format::options_in(input, POINT, TRIM);
     match float_of(input) {
         Float::F64(x) => answered(write_f64(x, format, options, out)),
         Float::F32(x) => answered(write_f32(x, format, options, out)),

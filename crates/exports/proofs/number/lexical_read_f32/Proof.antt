@@ -11,8 +11,8 @@ use Rattle.exports.proofs.number.lexical_read_f32.Tie as tie
 options-of-requires : tie.Need-options-of-requires
 options-of-requires c κs = search needs
 
-format-of-requires : tie.Need-format-of-requires
-format-of-requires c κs = search needs
+number-format-of-requires : tie.Need-number-format-of-requires
+number-format-of-requires c κs = search needs
 
 read-f32-requires : tie.Need-read-f32-requires
 read-f32-requires c κs = search needs
@@ -26,14 +26,14 @@ returns c =
     let f = w .before in
     let o = f .before in
     let a = o .before .before .args in
-    answered answerF32Of (λ F o. readFloat binary32 F o (now (a .text))) (f .format-of .ensures) (o .options-of .ensures) (w .read-f32 .ensures .0) (c .answer-f32-of .ensures)
+    answered answerF32Of (λ F o. readFloat binary32 F o (now (a .text))) (f .number-format-of .ensures) (o .options-of .ensures) (w .read-f32 .ensures .0) (c .answer-f32-of .ensures)
 
 pub lexical-read-f32-spec : {M : Type 1} → statement M
 lexical-read-f32-spec =
     tie.close
     (tie.spec
     options-of-requires
-    format-of-requires
+    number-format-of-requires
     read-f32-requires
     answer-f32-of-requires
     returns)

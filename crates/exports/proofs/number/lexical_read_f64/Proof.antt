@@ -11,8 +11,8 @@ use Rattle.exports.proofs.number.lexical_read_f64.Tie as tie
 options-of-requires : tie.Need-options-of-requires
 options-of-requires c κs = search needs
 
-format-of-requires : tie.Need-format-of-requires
-format-of-requires c κs = search needs
+number-format-of-requires : tie.Need-number-format-of-requires
+number-format-of-requires c κs = search needs
 
 read-f64-requires : tie.Need-read-f64-requires
 read-f64-requires c κs = search needs
@@ -26,14 +26,14 @@ returns c =
     let f = w .before in
     let o = f .before in
     let a = o .before .before .args in
-    answered answerF64Of (λ F o. readFloat binary64 F o (now (a .text))) (f .format-of .ensures) (o .options-of .ensures) (w .read-f64 .ensures .0) (c .answer-f64-of .ensures)
+    answered answerF64Of (λ F o. readFloat binary64 F o (now (a .text))) (f .number-format-of .ensures) (o .options-of .ensures) (w .read-f64 .ensures .0) (c .answer-f64-of .ensures)
 
 pub lexical-read-f64-spec : {M : Type 1} → statement M
 lexical-read-f64-spec =
     tie.close
     (tie.spec
     options-of-requires
-    format-of-requires
+    number-format-of-requires
     read-f64-requires
     answer-f64-of-requires
     returns)

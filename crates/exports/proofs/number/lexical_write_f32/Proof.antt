@@ -11,8 +11,8 @@ use Rattle.exports.proofs.number.lexical_write_f32.Tie as tie
 options-of-requires : tie.Need-options-of-requires
 options-of-requires c κs = search needs
 
-format-of-requires : tie.Need-format-of-requires
-format-of-requires c κs = search needs
+number-format-of-requires : tie.Need-number-format-of-requires
+number-format-of-requires c κs = search needs
 
 write-f32-requires : tie.Need-write-f32-requires
 write-f32-requires c κs = search needs
@@ -30,14 +30,14 @@ returns c =
     let o = f .before in
     let a = o .before .before .args in
     let out = now (a .buffer) in
-    handed-on answerOf (λ F o. written (writeText F o (a .x)) out) (f .format-of .ensures) (o .options-of .ensures) (w .write-f32 .ensures .0) (c .answer-of .ensures) (λ F o. held (writeText F o (a .x)) out) (w .write-f32 .ensures .1 .0)
+    handed-on answerOf (λ F o. written (writeText F o (a .x)) out) (f .number-format-of .ensures) (o .options-of .ensures) (w .write-f32 .ensures .0) (c .answer-of .ensures) (λ F o. held (writeText F o (a .x)) out) (w .write-f32 .ensures .1 .0)
 
 pub lexical-write-f32-spec : {M : Type 1} → statement M
 lexical-write-f32-spec =
     tie.close
     (tie.spec
     options-of-requires
-    format-of-requires
+    number-format-of-requires
     write-f32-requires
     answer-of-requires
     same-length

@@ -12,8 +12,8 @@ use Rattle.exports.proofs.sheet.outage_sheet_to_table.Tie as tie
 options-of-requires : tie.Need-options-of-requires
 options-of-requires c κs = search needs
 
-format-of-requires : tie.Need-format-of-requires
-format-of-requires c κs = search needs
+number-format-of-requires : tie.Need-number-format-of-requires
+number-format-of-requires c κs = search needs
 
 sheet-to-table-requires : tie.Need-sheet-to-table-requires
 sheet-to-table-requires c κs = search needs
@@ -31,14 +31,14 @@ returns c =
     let o = f .before in
     let a = o .before .before .before .args in
     let out = now (a .table) in
-    handed-on answerOf (λ F o. written (sheetTable F o (now (a .sheet)) (length (now (a .table)))) out) (f .format-of .ensures) (o .options-of .ensures) (w .sheet-to-table .ensures .0) (c .answer-of .ensures) (λ F o. held (sheetTable F o (now (a .sheet)) (length (now (a .table)))) out) (w .sheet-to-table .ensures .1)
+    handed-on answerOf (λ F o. written (sheetTable F o (now (a .sheet)) (length (now (a .table)))) out) (f .number-format-of .ensures) (o .options-of .ensures) (w .sheet-to-table .ensures .0) (c .answer-of .ensures) (λ F o. held (sheetTable F o (now (a .sheet)) (length (now (a .table)))) out) (w .sheet-to-table .ensures .1)
 
 pub outage-sheet-to-table-spec : {M : Type 1} → statement M
 outage-sheet-to-table-spec =
     tie.close
     (tie.spec
     options-of-requires
-    format-of-requires
+    number-format-of-requires
     sheet-to-table-requires
     answer-of-requires
     same-length

@@ -11,8 +11,8 @@ use Rattle.exports.proofs.sheet.outage_table_to_sheet.Tie as tie
 options-of-requires : tie.Need-options-of-requires
 options-of-requires c κs = search needs
 
-format-of-requires : tie.Need-format-of-requires
-format-of-requires c κs = search needs
+number-format-of-requires : tie.Need-number-format-of-requires
+number-format-of-requires c κs = search needs
 
 table-to-sheet-requires : tie.Need-table-to-sheet-requires
 table-to-sheet-requires c κs = search needs
@@ -30,14 +30,14 @@ returns c =
     let o = f .before in
     let a = o .before .before .before .args in
     let out = now (a .sheet) in
-    handed-on answerOf (λ F o. written (tableSheet F o (now (a .table))) out) (f .format-of .ensures) (o .options-of .ensures) (w .table-to-sheet .ensures .0) (c .answer-of .ensures) (λ F o. held (tableSheet F o (now (a .table))) out) (w .table-to-sheet .ensures .1 .0)
+    handed-on answerOf (λ F o. written (tableSheet F o (now (a .table))) out) (f .number-format-of .ensures) (o .options-of .ensures) (w .table-to-sheet .ensures .0) (c .answer-of .ensures) (λ F o. held (tableSheet F o (now (a .table))) out) (w .table-to-sheet .ensures .1 .0)
 
 pub outage-table-to-sheet-spec : {M : Type 1} → statement M
 outage-table-to-sheet-spec =
     tie.close
     (tie.spec
     options-of-requires
-    format-of-requires
+    number-format-of-requires
     table-to-sheet-requires
     answer-of-requires
     same-length

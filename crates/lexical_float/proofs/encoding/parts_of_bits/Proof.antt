@@ -1,13 +1,13 @@
 -- `lexical_float::encoding::parts_of_bits` meets its contract: its tests tell the cases of a bit pattern apart. Assumes nothing.
 use borrow.Author.Needs.{needs}
 use lib.Ieee.{Format}
-use Rattle.lexical_float.specs.Encoding.{formatOf}
+use Rattle.lexical_float.specs.Encoding.{ofWidth}
 use Rattle.lexical_float.proofs.EncodingLaws as L
 use Rattle.lexical_float.proofs.encoding.parts_of_bits.Statement.{statement}
 use Rattle.lexical_float.proofs.encoding.parts_of_bits.Tie as tie
 
 abbrev f : tie.Start → Format
-f c = formatOf (c .args .width)
+f c = ofWidth (c .args .width)
 
 encoding-of-requires : tie.Need-encoding-of-requires
 encoding-of-requires c κs = search needs

@@ -5,14 +5,14 @@ use borrow.Author.Needs.{needs}
 use borrow.Author.Tests.{lt-ltb, le-ltb}
 use lib.Dec.{ltb}
 use lib.Ieee.{Format, top, ofBits, lt}
-use Rattle.lexical_float.specs.Encoding.{formatOf}
+use Rattle.lexical_float.specs.Encoding.{ofWidth}
 use Rattle.lexical_float.proofs.EncodingLaws.{sign}
 use Rattle.lexical_float.proofs.OrderLaws.{less-plain, less-mixed, less-negative}
 use Rattle.lexical_float.proofs.order.less_bits.Statement.{statement}
 use Rattle.lexical_float.proofs.order.less_bits.Tie as tie
 
 abbrev f : tie.Start → Format
-f c = formatOf (c .args .width)
+f c = ofWidth (c .args .width)
 
 encoding-of-requires : tie.Need-encoding-of-requires
 encoding-of-requires c κs = search needs

@@ -7,7 +7,7 @@ use borrow.Author.Needs.{needs}
 use lib.IntN.{pos, natAbs}
 use Rattle.lexical_exponent.specs.Exponent.{heightAbove}
 use Rattle.lexical_exponent.proofs.ExponentLaws.{height-few, signed-few}
-use Rattle.lexical_float.specs.Encoding.{formatOf}
+use Rattle.lexical_float.specs.Encoding.{ofWidth}
 use Rattle.lexical_read_float.specs.declared.bits.Powers.{Powers}
 use Rattle.lexical_read_float.specs.Bits.{powersOf}
 use Rattle.lexical_read_float.proofs.BitsLaws.{refused-ten, value-scaled, kept-holds}
@@ -70,7 +70,7 @@ returns-2 c =
     let b = p .before in
     let e = b .before .before in
     let a = start e .args in
-    let f = formatOf (a .width) in
+    let f = ofWidth (a .width) in
     let powers = p .powers-of .ensures ∙ ap₂ powersOf (b .before .digits-in-bits .ensures) (b .powers-in-bits .ensures) in (
       λ t power s are is. value-scaled f (a .row) power t s (a .number) is (few e) (e .if1 .left) (small e) _ _ powers (c .rounded-bits .ensures .0 f ∙ c .before .round-kept .ensures .0 _ (kept-holds f (a .row) power t s (a .number) is are)),
       c .rounded-bits .ensures .1 f (c .before .round-kept .ensures .1),

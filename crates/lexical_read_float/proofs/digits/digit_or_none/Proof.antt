@@ -7,13 +7,13 @@ use native.Mathlib.Omega.{arith}
 use borrow.Author.Needs.{needs}
 use Rattle.lexical_util.specs.Digit.{digitValue}
 use Rattle.lexical_util.proofs.DigitLaws.{value-figure, value-capital, value-low, value-between, value-high}
-use Rattle.lexical_read_float.specs.Digits.{IsValue}
+use Rattle.lexical_read_float.specs.Digits.{IsDigitOrNone}
 use Rattle.lexical_read_float.proofs.DigitRunLaws.{tells-digit, tells-none}
 use Rattle.lexical_read_float.proofs.digits.digit_or_none.Statement.{statement}
 use Rattle.lexical_read_float.proofs.digits.digit_or_none.Tie as tie
 
 -- the first match alone: figures, and none for a byte above them that is no capital
-figure : (c : tie.Joined1) → (57 < c .before .args .byte → digitValue (c .before .args .byte) ≡ none) → IsValue (digitValue (c .before .args .byte)) (c .if1 .figure)
+figure : (c : tie.Joined1) → (57 < c .before .args .byte → digitValue (c .before .args .byte) ≡ none) → IsDigitOrNone (digitValue (c .before .args .byte)) (c .if1 .figure)
 figure c above =
     let x = c .before .args .byte in
     ⊎-elim

@@ -8,7 +8,7 @@ use native.Mathlib.Nat.{not-le-of-lt}
 use borrow.Author.Needs.{needs}
 use lib.ListN.{length}
 use Rattle.lexical_read_float.proofs.DigitRunLaws.{digit-below, digit-above, from-more, from-stop, from-end, end-on}
-use Rattle.lexical_read_float.specs.Digits.{digitsFrom, endFrom, Filled}
+use Rattle.lexical_read_float.specs.Digits.{digitsFrom, endFrom, FilledBits}
 use Rattle.lexical_read_float.specs.Kept.{full, keepDigits}
 use Rattle.lexical_read_float.proofs.KeepLaws.{shift-small, shift-is, kept-on}
 use Rattle.lexical_read_float.proofs.digits.leading_digits.Statement.{statement}
@@ -25,7 +25,7 @@ abbrev μ-loop : tie.MeasureT-loop
 
 -- the loop stops here: the bits are full, or no digit stands here
 stopped : (c : tie.At-loop Inv-loop μ-loop) → (c .loop .bits < full → digitsFrom (c .before .before .args .radix) (c .before .before .args .text .now) (c .loop .i) ≡ [])
-    → (let a = c .before .before .args in Filled (a .radix) (a .b) (a .text .now) (a .from) (a .start) (c .loop .i) (c .loop .bits))
+    → (let a = c .before .before .args in FilledBits (a .radix) (a .b) (a .text .now) (a .from) (a .start) (c .loop .i) (c .loop .bits))
 stopped c e = let v = c .loop .inv in record { forth = v .0; within = v .1; ends = v .2; kept = v .3; done = e }
 
 loop-holds : tie.Need-loop-holds Inv-loop μ-loop

@@ -2,13 +2,13 @@
 use native.Mathlib.Omega.{arith}
 use borrow.Author.Needs.{needs}
 use lib.Ieee.{Format}
-use Rattle.lexical_float.specs.Encoding.{formatOf}
+use Rattle.lexical_float.specs.Encoding.{ofWidth}
 use Rattle.lexical_read_float.proofs.RoundLaws.{lift-some, lift-none, size-small, low-small}
 use Rattle.lexical_read_float.proofs.round.lift_of.Statement.{statement}
 use Rattle.lexical_read_float.proofs.round.lift_of.Tie as tie
 
 abbrev f : tie.Start → Format
-f c = formatOf (c .args .width)
+f c = ofWidth (c .args .width)
 
 encoding-of-requires : tie.Need-encoding-of-requires
 encoding-of-requires c κs = search needs

@@ -3,13 +3,13 @@ use native.Mathlib.Omega.{arith}
 use borrow.Author.Needs.{needs}
 use lib.Ieee.{Format}
 use Prim.Native.Nat.{_*_, _≤_}
-use Rattle.lexical_float.specs.Encoding.{formatOf}
+use Rattle.lexical_float.specs.Encoding.{ofWidth}
 use Rattle.lexical_read_float.proofs.RoundLaws as L
 use Rattle.lexical_read_float.proofs.round.round_bits.Statement.{statement}
 use Rattle.lexical_read_float.proofs.round.round_bits.Tie as tie
 
 abbrev f : tie.Start → Format
-f c = formatOf (c .args .width)
+f c = ofWidth (c .args .width)
 
 -- the field has room for the bits kept
 field : (k : tie.Else1) → k .before .lift-of .result * k .before .before .encoding-of .result .«hidden_bit_mask» ≤ 9214364837600034816

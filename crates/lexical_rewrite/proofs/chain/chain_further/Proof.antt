@@ -5,7 +5,7 @@ use native.Mathlib.Omega.{arith}
 use borrow.Author.Needs.{needs}
 use lib.ListN.{length, take, drop}
 use lib.Seq.{length-take-le}
-use Rattle.lexical_float.specs.Encoding.{formatOf}
+use Rattle.lexical_float.specs.Encoding.{ofWidth}
 use Rattle.lexical_rewrite_spec.specs.declared.text_format.TextFormat.{TextFormat}
 use Rattle.lexical_rewrite_spec.specs.Rewrite.{readIn}
 use Rattle.lexical_rewrite_spec.specs.Chain.{Outcome, atStation}
@@ -22,7 +22,7 @@ Inv-loop scratch₀ written first further buffer width count₀ station₀ at₀
     × (count ≤ 2275)
     × (at < length further)
     × (station ≤ at + 1)
-    × (onFrom (formatOf width) station (sourceAt first further at) (take count scratch) (drop at further) buffer ≡ onFrom (formatOf width) 1 first (take written scratch₀) further buffer)
+    × (onFrom (ofWidth width) station (sourceAt first further at) (take count scratch) (drop at further) buffer ≡ onFrom (ofWidth width) 1 first (take written scratch₀) further buffer)
 
 abbrev μ-loop : tie.MeasureT-loop
 μ-loop scratch₀ written first further buffer width count₀ station₀ at₀ scratch count station at = length further - at
@@ -41,15 +41,15 @@ tested c = c .before .before .before .before .before .before .before .before .be
 
 -- what is left, under the format that was found for the text
 left : (l : tie.At-loop Inv-loop μ-loop) (F : TextFormat) → let a = given l .args in let s = l .loop in F ≡ sourceAt (a .first) (a .further .now) (s .at)
-    → onFrom (formatOf (a .width)) (s .station) F (take (s .count) (s .scratch)) (drop (s .at) (a .further .now)) (a .buffer .now) ≡ onFrom (formatOf (a .width)) 1 (a .first) (take (a .written) (a .scratch .now)) (a .further .now) (a .buffer .now)
+    → onFrom (ofWidth (a .width)) (s .station) F (take (s .count) (s .scratch)) (drop (s .at) (a .further .now)) (a .buffer .now) ≡ onFrom (ofWidth (a .width)) 1 (a .first) (take (a .written) (a .scratch .now)) (a .further .now) (a .buffer .now)
 left l F e = let a = given l .args in let s = l .loop in
-    ap (λ (H : TextFormat). onFrom (formatOf (a .width)) (s .station) H (take (s .count) (s .scratch)) (drop (s .at) (a .further .now)) (a .buffer .now)) e ∙ s .inv .4
+    ap (λ (H : TextFormat). onFrom (ofWidth (a .width)) (s .station) H (take (s .count) (s .scratch)) (drop (s .at) (a .further .now)) (a .buffer .now)) e ∙ s .inv .4
 
 loop-holds : tie.Need-loop-holds Inv-loop μ-loop
 loop-holds c =
     let b = c .before .before .before in
     let a = b .args in
-    (b .pre .0, b .pre .1, b .pre .2, omega arith, ap (λ (H : TextFormat). onFrom (formatOf (a .width)) 1 H (take (a .written) (a .scratch .now)) (a .further .now) (a .buffer .now)) (source-first (a .first) (a .further .now) 0 (omega arith)))
+    (b .pre .0, b .pre .1, b .pre .2, omega arith, ap (λ (H : TextFormat). onFrom (ofWidth (a .width)) 1 H (take (a .written) (a .scratch .now)) (a .further .now) (a .buffer .now)) (source-first (a .first) (a .further .now) 0 (omega arith)))
 
 sub-loop : tie.Need-sub-loop Inv-loop μ-loop
 sub-loop c = omega arith
@@ -81,7 +81,7 @@ returns c =
     let source = w .before .before .before .source-at in
     let target = w .before .before .format-at in
     let told = sym (w .station-within .ensures .0) ∙ ap ofRewritten (c .before .refusal .given .1) in
-    let e = sym (left l (source .result) (source .ensures)) ∙ from-reading (formatOf (a .width)) (s .station) (source .result) (take (s .count) (s .scratch)) (target .result) (a .further .now) (s .at) (a .buffer .now) (target .ensures) (s .scratch) (omega arith) (s .inv .0) _ _ told in
+    let e = sym (left l (source .result) (source .ensures)) ∙ from-reading (ofWidth (a .width)) (s .station) (source .result) (take (s .count) (s .scratch)) (target .result) (a .further .now) (s .at) (a .buffer .now) (target .ensures) (s .scratch) (omega arith) (s .inv .0) _ _ told in
     (sym (ap (λ (o : Outcome). o .answer) e), sym (ap (λ (o : Outcome). o .bytes) e))
 
 enum-known-refusal-2 : tie.Need-enum-known-refusal-2 Inv-loop μ-loop
@@ -99,7 +99,7 @@ returns-2 c =
     let source = w .before .before .before .source-at in
     let target = w .before .before .format-at in
     let told = sym (w .station-within .ensures .0) ∙ ap ofRewritten (c .before .refusal2 .given .1) in
-    let e = sym (left l (source .result) (source .ensures)) ∙ from-writing (formatOf (a .width)) (s .station) (source .result) (take (s .count) (s .scratch)) (target .result) (a .further .now) (s .at) (a .buffer .now) (target .ensures) (s .scratch) (omega arith) (s .inv .0) _ _ told in
+    let e = sym (left l (source .result) (source .ensures)) ∙ from-writing (ofWidth (a .width)) (s .station) (source .result) (take (s .count) (s .scratch)) (target .result) (a .further .now) (s .at) (a .buffer .now) (target .ensures) (s .scratch) (omega arith) (s .inv .0) _ _ told in
     (sym (ap (λ (o : Outcome). o .answer) e), sym (ap (λ (o : Outcome). o .bytes) e))
 
 add-station : tie.Need-add-station Inv-loop μ-loop
@@ -121,8 +121,8 @@ loop-again c =
     let target = w .before .before .format-at in
     let n = c .before .next .given .0 .0 in
     let told = sym (w .station-within .ensures .0) ∙ ap ofRewritten (c .before .next .given .1) in
-    let e = from-written (formatOf (a .width)) (s .station) (source .result) (take (s .count) (s .scratch)) (target .result) (a .further .now) (s .at) (a .buffer .now) (target .ensures) (s .scratch) (omega arith) (s .inv .0) n told in
-    let few = rewritten-fits (target .result) (s .scratch) (readIn (formatOf (a .width)) (source .result) (take (s .count) (s .scratch))) n told in
+    let e = from-written (ofWidth (a .width)) (s .station) (source .result) (take (s .count) (s .scratch)) (target .result) (a .further .now) (s .at) (a .buffer .now) (target .ensures) (s .scratch) (omega arith) (s .inv .0) n told in
+    let few = rewritten-fits (target .result) (s .scratch) (readIn (ofWidth (a .width)) (source .result) (take (s .count) (s .scratch))) n told in
     (search needs, omega arith, omega arith, omega arith, rw (w .station-within .ensures .1, source-next (a .first) (a .further .now) (s .at) ∙ sym (target .ensures)) (sym e ∙ left l (source .result) (source .ensures)))
 
 source-at-requires-2 : tie.Need-source-at-requires-2 Inv-loop μ-loop
@@ -158,7 +158,7 @@ returns-3 c =
     let l = t .before .before .before in
     let a = given l .args in
     let s = l .loop in
-    let e = sym (left l (source .result) (source .ensures)) ∙ from-last (formatOf (a .width)) (s .station) (source .result) (take (s .count) (s .scratch)) (target .result) (a .further .now) (s .at) (a .buffer .now) (target .ensures) (omega arith) in
+    let e = sym (left l (source .result) (source .ensures)) ∙ from-last (ofWidth (a .width)) (s .station) (source .result) (take (s .count) (s .scratch)) (target .result) (a .further .now) (s .at) (a .buffer .now) (target .ensures) (omega arith) in
     (c .at-station .ensures ∙ ap (atStation (s .station)) (w .station-into .ensures .0) ∙ sym (ap (λ (o : Outcome). o .answer) e), w .station-into .ensures .1 ∙ sym (ap (λ (o : Outcome). o .bytes) e))
 
 pub chain-further-spec : {M : Type 1} → statement M

@@ -1,7 +1,7 @@
 -- `lexical_rewrite::chain::station_into` meets its contract, at each width. Assumes nothing.
 use mathlib.Core.Path.{ap}
 use borrow.Author.Needs.{needs}
-use Rattle.lexical_float.specs.Encoding.{formatOf}
+use Rattle.lexical_float.specs.Encoding.{ofWidth}
 use Rattle.lexical_rewrite.proofs.chain.station_into.Statement.{statement}
 use Rattle.lexical_rewrite.proofs.chain.station_into.Tie as tie
 
@@ -23,7 +23,7 @@ same-length c = search needs
 returns : tie.Need-returns
 returns c =
     let w = c .before .before in
-    rw (ap formatOf (w .before .before .enum-told .given .1)) (w .rewrite-f32 .ensures .0, w .rewrite-f32 .ensures .1 .0)
+    rw (ap ofWidth (w .before .before .enum-told .given .1)) (w .rewrite-f32 .ensures .0, w .rewrite-f32 .ensures .1 .0)
 
 same-length-2 : tie.Need-same-length-2
 same-length-2 c = search needs
@@ -31,7 +31,7 @@ same-length-2 c = search needs
 returns-2 : tie.Need-returns-2
 returns-2 c =
     let w = c .before .before in
-    rw (ap formatOf (w .before .before .enum-told2 .given .1)) (w .rewrite-f64 .ensures .0, w .rewrite-f64 .ensures .1 .0)
+    rw (ap ofWidth (w .before .before .enum-told2 .given .1)) (w .rewrite-f64 .ensures .0, w .rewrite-f64 .ensures .1 .0)
 
 pub station-into-spec : {M : Type 1} → statement M
 station-into-spec =

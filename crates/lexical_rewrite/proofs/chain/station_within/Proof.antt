@@ -2,7 +2,7 @@
 use mathlib.Core.Path.{sym, ap}
 use borrow.Author.Needs.{needs}
 use lib.Seq.{length-take-le}
-use Rattle.lexical_float.specs.Encoding.{formatOf}
+use Rattle.lexical_float.specs.Encoding.{ofWidth}
 use Rattle.lexical_rewrite.proofs.chain.station_within.Statement.{statement}
 use Rattle.lexical_rewrite.proofs.chain.station_within.Tie as tie
 
@@ -43,7 +43,7 @@ returns : tie.Need-returns
 returns c =
     let w = c .before .before in
     let r = w .before .before in
-    rw (ap formatOf (r .before .before .enum-told .given .1)) (rw (r .read-f32 .ensures .0) at (w .write-read-f32 .ensures))
+    rw (ap ofWidth (r .before .before .enum-told .given .1)) (rw (r .read-f32 .ensures .0) at (w .write-read-f32 .ensures))
 
 same-length-2 : tie.Need-same-length-2
 same-length-2 c = search needs
@@ -52,7 +52,7 @@ returns-2 : tie.Need-returns-2
 returns-2 c =
     let w = c .before .before in
     let r = w .before .before in
-    rw (ap formatOf (r .before .before .enum-told2 .given .1)) (rw (r .read-f64 .ensures .0) at (w .write-read-f64 .ensures))
+    rw (ap ofWidth (r .before .before .enum-told2 .given .1)) (rw (r .read-f64 .ensures .0) at (w .write-read-f64 .ensures))
 
 pub station-within-spec : {M : Type 1} → statement M
 station-within-spec =

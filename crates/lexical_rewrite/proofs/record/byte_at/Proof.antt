@@ -1,4 +1,4 @@
--- `lexical_record::record::byte_at` meets its contract: past the last byte it is 0. Assumes nothing.
+-- `lexical_rewrite::record::byte_at` meets its contract: past the last byte it is 0. Assumes nothing.
 use mathlib.Core.Path.{sym}
 use borrow.Author.Needs.{needs}
 use lib.ListN.{List·getD-eq-default}

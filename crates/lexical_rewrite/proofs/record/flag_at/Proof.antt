@@ -1,4 +1,4 @@
--- `lexical_record::record::flag_at` meets its contract. Assumes nothing.
+-- `lexical_rewrite::record::flag_at` meets its contract. Assumes nothing.
 use borrow.Author.Needs.{needs}
 use Rattle.lexical_rewrite.proofs.record.flag_at.Statement.{statement}
 use Rattle.lexical_rewrite.proofs.record.flag_at.Tie as tie

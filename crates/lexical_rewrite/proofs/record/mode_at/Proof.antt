@@ -1,4 +1,4 @@
--- `lexical_record::record::mode_at` meets its contract, by the flag. Assumes nothing.
+-- `lexical_rewrite::record::mode_at` meets its contract, by the flag. Assumes nothing.
 use mathlib.Core.Path.{sym, _∙_}
 use borrow.Author.Needs.{needs}
 use Rattle.lexical_rewrite.proofs.record.mode_at.Statement.{statement}

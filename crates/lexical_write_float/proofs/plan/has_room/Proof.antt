@@ -25,11 +25,11 @@ returns c D point mark e =
     let few = text-few point (a .plan) D (a .layout) mark (a .exponent .0) (a .plus) (a .radix) (a .exponent .1) (omega (arith, s .pre .1 .leading-few, e)) (omega (arith, s .pre .0, e)) (s .pre .2) (s .pre .3) in
     sym (le-leb _ (a .room) (omega (arith, few, c .if1 .taken)))
 
-text-length-requires : tie.Need-text-length-requires
-text-length-requires c κs = c .before .before .before .pre
+planned-length-requires : tie.Need-planned-length-requires
+planned-length-requires c κs = c .before .before .before .pre
 
 returns-2 : tie.Need-returns-2
-returns-2 c D point mark e = ap (λ (n : ℕ). leb n (c .before .before .before .before .args .room)) (c .text-length .ensures D point mark e)
+returns-2 c D point mark e = ap (λ (n : ℕ). leb n (c .before .before .before .before .args .room)) (c .planned-length .ensures D point mark e)
 
 pub has-room-spec : {M : Type 1} → statement M
-has-room-spec = tie.close (tie.spec add-if1 add-if1-2 add-if1-3 returns text-length-requires returns-2)
+has-room-spec = tie.close (tie.spec add-if1 add-if1-2 add-if1-3 returns planned-length-requires returns-2)

@@ -29,14 +29,14 @@ room c = leb-true _ _ (sym (decided (c .before)) ∙ not-false _ (c .if1 .left))
 has-room-requires : tie.Need-has-room-requires
 has-room-requires c κs = let s = c .before in (s .pre .0 .few, s .pre .1, s .pre .2, s .pre .3)
 
-text-length-requires : tie.Need-text-length-requires
-text-length-requires c κs = let s = c .before .before .before in (s .pre .0 .few, s .pre .1, s .pre .2, s .pre .3)
+planned-length-requires : tie.Need-planned-length-requires
+planned-length-requires c κs = let s = c .before .before .before in (s .pre .0 .few, s .pre .1, s .pre .2, s .pre .3)
 
 returns : tie.Need-returns
 returns c =
     let h = c .before .before in
     let s = h .before .before in
-    (c .text-length .ensures (digitsOf (s .args .digits)) (s .args .options .«decimal_point») (s .args .options .exponent) (sym (s .pre .0 .count-is)), short-held (front s ++ tail s) (s .args .buffer .now) (leb-false _ _ (sym (decided h) ∙ not-true _ (c .before .if1 .taken))))
+    (c .planned-length .ensures (digitsOf (s .args .digits)) (s .args .options .«decimal_point») (s .args .options .exponent) (sym (s .pre .0 .count-is)), short-held (front s ++ tail s) (s .args .buffer .now) (leb-false _ _ (sym (decided h) ∙ not-true _ (c .before .if1 .taken))))
 
 put-plan-requires : tie.Need-put-plan-requires
 put-plan-requires c κs =
@@ -68,7 +68,7 @@ write-plan-spec =
     tie.close
     (tie.spec
     has-room-requires
-    text-length-requires
+    planned-length-requires
     returns
     put-plan-requires
     write-exponent-requires

@@ -7,7 +7,7 @@ use lib.ListN.{length}
 use Rattle.lexical_util.specs.Answer.{done, held}
 use Rattle.lexical_exponent.specs.Exponent.{scale, place}
 use Rattle.lexical_write_float_spec.specs.Text.{point, layoutOf, text}
-use Rattle.lexical_write_float.specs.Code.{rowOf, digitsOf, planText, bodyText, tailText}
+use Rattle.lexical_write_float.specs.Code.{checkedRow, digitsOf, planText, bodyText, tailText}
 use Rattle.lexical_write_float_spec.proofs.RangeLaws.{place-near}
 use Rattle.lexical_write_float_spec.proofs.LengthLaws.{power-few}
 use Rattle.lexical_write_float.proofs.StoredLaws.{near-held}
@@ -34,7 +34,7 @@ near c = let s = start c in rw (place-is c) (place-near (s .args .checked .b) (s
 
 -- the text that the plan stands for
 abbrev whole : tie.Start → List ℕ
-whole s = text (s .args .format) (s .args .options) (rowOf (s .args .checked)) (s .args .value .mantissa) (s .args .value .exponent .0)
+whole s = text (s .args .format) (s .args .options) (checkedRow (s .args .checked)) (s .args .value .mantissa) (s .args .value .exponent .0)
 
 abbrev placed : tie.After-plan-of → tie.After-place-by-bits
 placed c = c .before .before .before .before .before

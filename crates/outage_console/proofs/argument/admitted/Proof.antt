@@ -1,4 +1,4 @@
--- `outage_argument::argument::admitted` meets its contract, by the format's check. Assumes nothing.
+-- `outage_console::argument::admitted` meets its contract, by the format's check. Assumes nothing.
 use mathlib.Core.Path.{sym, ap, _∙_}
 use borrow.Author.Needs.{needs}
 use Rattle.lexical_format.specs.Format.{ofWritingCheck}

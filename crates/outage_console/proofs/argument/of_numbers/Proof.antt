@@ -1,4 +1,4 @@
--- `outage_argument::argument::of_numbers` meets its contract: a number that is missing leaves no format. Assumes nothing.
+-- `outage_console::argument::of_numbers` meets its contract: a number that is missing leaves no format. Assumes nothing.
 use mathlib.Core.Path.{ap, _∙_}
 use borrow.Author.Needs.{needs}
 use Rattle.outage_console.specs.Argument.{admitted}

@@ -1,4 +1,4 @@
--- `outage_argument::argument::read_format` meets its contract, by the parts between the slashes. Assumes nothing.
+-- `outage_console::argument::read_format` meets its contract, by the parts between the slashes. Assumes nothing.
 use mathlib.Core.Path.{sym, ap, _∙_}
 use borrow.Author.Needs.{needs}
 use Rattle.outage_spec.specs.Sheet.{numberIn}

@@ -13,8 +13,8 @@ check-reading-requires c κs = search needs
 enum-told : tie.Need-enum-told
 enum-told c = search needs
 
-read-sheet-requires : tie.Need-read-sheet-requires
-read-sheet-requires c κs = search needs
+read-counted-requires : tie.Need-read-counted-requires
+read-counted-requires c κs = search needs
 
 enum-known-refusal : tie.Need-enum-known-refusal
 enum-known-refusal c = search needs
@@ -29,7 +29,7 @@ returns c =
     let a = r .before .before .before .args in
     let g = k .enum-told .given in
     let e = format-passed (a .format) (a .options) (a .sheet .now) (length (a .table .now)) (g .0 .0) (sym (r .check-reading .ensures) ∙ ap ofReadingCheck (g .1)) in
-    answered-so _ (a .table .now) _ e _ _ (c .before .before .read-sheet .ensures)
+    answered-so _ (a .table .now) _ e _ _ (c .before .before .read-counted .ensures)
 
 returns-2 : tie.Need-returns-2
 returns-2 c =
@@ -45,7 +45,7 @@ sheet-to-table-spec =
     (tie.spec
     check-reading-requires
     enum-told
-    read-sheet-requires
+    read-counted-requires
     enum-known-refusal
     same-length
     returns

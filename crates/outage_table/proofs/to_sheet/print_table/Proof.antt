@@ -1,4 +1,4 @@
--- `outage_table::to_sheet::print_table` meets its contract: 13, the first refusal of a row, or the sheet of the rows, which are all found. Assumes nothing.
+-- `outage_table::to_sheet::print_table` meets its contract: 13, the first refusal of a row, or the sheet of the rows, which are all contents. Assumes nothing.
 use mathlib.Core.Path.{_≡_, refl, sym, ap, _∙_, subst}
 use mathlib.Core.List.{List}
 use borrow.Author.Needs.{needs}
@@ -7,7 +7,7 @@ use Rattle.outage_spec.specs.declared.window.Window.{Window}
 use Rattle.outage_spec.specs.Table.{tableCount, rowsFrom}
 use Rattle.outage_table.specs.declared.table.Rows.{Rows}
 use Rattle.outage_table.specs.Count.{ofCount, AreRows}
-use Rattle.outage_table.specs.Text.{found}
+use Rattle.outage_table.specs.Text.{contents}
 use Rattle.outage_spec.proofs.TableLaws.{header}
 use Rattle.outage_table.proofs.SheetLaws.{windows-sheet, windows-wrong, windows-refused}
 use Rattle.outage_table.proofs.to_sheet.print_table.Statement.{statement}
@@ -44,7 +44,7 @@ abbrev all : tie.After-n → Answer (List Window)
 all c = let n = c .n .given .0 .0 in rowsFrom (c .before .before .before .before .before .args .table .now) n 0 n
 
 -- all rows passed
-passed : (c : tie.After-enum-told2) → let k = c .before .before .before .before in all k ≡ done (found (all k))
+passed : (c : tie.After-enum-told2) → let k = c .before .before .before .before in all k ≡ done (contents (all k))
 passed c =
     let r = c .before .before in
     subst (λ (rows : Rows). AreRows rows (all (r .before .before))) (c .enum-told2 .given .1) (r .check-rows .ensures)

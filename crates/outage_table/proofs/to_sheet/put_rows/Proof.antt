@@ -6,13 +6,13 @@ use borrow.Author.Needs.{needs}
 use Rattle.lexical_util.specs.Answer.{done}
 use Rattle.outage.specs.Answer.{ofCheckedWindow}
 use Rattle.outage_spec.specs.Table.{rowAt, rowsFrom}
-use Rattle.outage_table.specs.Text.{found}
+use Rattle.outage_table.specs.Text.{contents}
 use Rattle.outage_table.proofs.RowsLaws.{row-texts, rows-more, rows-stop, rows-end, Going, going-start, going-dead, going-room, going-more, going-end}
 use Rattle.outage_table.proofs.to_sheet.put_rows.Statement.{statement}
 use Rattle.outage_table.proofs.to_sheet.put_rows.Tie as tie
 
 abbrev Inv-loop : tie.InvT-loop
-Inv-loop table n sheet₀ from format options at₀ row₀ sheet at row = Going format options (found (rowsFrom table n 0 n)) sheet₀ from (rowsFrom table n row (n - row)) sheet at × (row ≤ n)
+Inv-loop table n sheet₀ from format options at₀ row₀ sheet at row = Going format options (contents (rowsFrom table n 0 n)) sheet₀ from (rowsFrom table n row (n - row)) sheet at × (row ≤ n)
 
 abbrev μ-loop : tie.MeasureT-loop
 μ-loop table n sheet₀ from format options at₀ row₀ sheet at row = n - row

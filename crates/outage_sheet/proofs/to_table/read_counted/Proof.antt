@@ -1,4 +1,4 @@
--- `outage_sheet::to_table::read_sheet` meets its contract: the count line, room for the table, then the rows. Assumes nothing.
+-- `outage_sheet::to_table::read_counted` meets its contract: the count line, room for the table, then the rows. Assumes nothing.
 use Prim.Native.Nat.{ℕ, _+_, _≤_}
 use mathlib.Core.Path.{_≡_, sym, ap, _∙_}
 use mathlib.Core.List.{List}
@@ -12,8 +12,8 @@ use Rattle.outage.specs.Answer.{ofNumber}
 use Rattle.outage_spec.proofs.StoredLaws.{number-le}
 use Rattle.outage_sheet.proofs.SheetLaws.{count-open, count-read, no-count, no-room, from-rows, refused-so, answered-so}
 use borrow.Author.Needs.{needs}
-use Rattle.outage_sheet.proofs.to_table.read_sheet.Statement.{statement}
-use Rattle.outage_sheet.proofs.to_table.read_sheet.Tie as tie
+use Rattle.outage_sheet.proofs.to_table.read_counted.Statement.{statement}
+use Rattle.outage_sheet.proofs.to_table.read_counted.Tie as tie
 
 -- where the count line was read, and what is left
 abbrev start : tie.After-read-number → tie.Start
@@ -101,8 +101,8 @@ returns-4 c =
     let e = from-rows (a .format) (a .options) (s k) (length (a .table .now)) (n k) (count-is k) (omega arith) (f .result + 1) (ap (λ (i : ℕ). i + 1) (f .ensures .0)) in
     answered-so _ (a .table .now) _ e _ _ (c .before .before .read-table .ensures)
 
-pub read-sheet-spec : {M : Type 1} → statement M
-read-sheet-spec =
+pub read-counted-spec : {M : Type 1} → statement M
+read-counted-spec =
     tie.close
     (tie.spec
     find-requires

@@ -1,10 +1,10 @@
--- `lexical_record::record::options_of` meets its contract, byte by byte. Assumes nothing.
+-- `lexical_rewrite::record::options_of_record` meets its contract, byte by byte. Assumes nothing.
 use mathlib.Core.Path.{_∙_}
 use borrow.Author.Needs.{needs}
 use Rattle.lexical_exponent.proofs.DifferenceLaws.{read-back}
-use Rattle.lexical_rewrite_spec.specs.Record.{optionsOf}
-use Rattle.lexical_rewrite.proofs.record.options_of.Statement.{statement}
-use Rattle.lexical_rewrite.proofs.record.options_of.Tie as tie
+use Rattle.lexical_rewrite_spec.specs.Record.{optionsOfRecord}
+use Rattle.lexical_rewrite.proofs.record.options_of_record.Statement.{statement}
+use Rattle.lexical_rewrite.proofs.record.options_of_record.Tie as tie
 
 word-at-requires : tie.Need-word-at-requires
 word-at-requires c κs = search needs
@@ -31,7 +31,7 @@ byte-at-requires-2 : tie.Need-byte-at-requires-2
 byte-at-requires-2 c κs = search needs
 
 returns : tie.Need-returns
-unfolding optionsOf
+unfolding optionsOfRecord
 returns c =
     let f = c .before .before in
     let m = f .before in
@@ -49,8 +49,8 @@ returns c =
       c .byte-at2 .ensures,
     )
 
-pub options-of-spec : {M : Type 1} → statement M
-options-of-spec =
+pub options-of-record-spec : {M : Type 1} → statement M
+options-of-record-spec =
     tie.close
     (tie.spec
     word-at-requires

@@ -1,8 +1,8 @@
--- `lexical_record::record::number_format_of` meets its contract, byte by byte. Assumes nothing.
+-- `lexical_rewrite::record::number_format_of_record` meets its contract, byte by byte. Assumes nothing.
 use borrow.Author.Needs.{needs}
-use Rattle.lexical_rewrite_spec.specs.Record.{numberFormatOf}
-use Rattle.lexical_rewrite.proofs.record.number_format_of.Statement.{statement}
-use Rattle.lexical_rewrite.proofs.record.number_format_of.Tie as tie
+use Rattle.lexical_rewrite_spec.specs.Record.{numberFormatOfRecord}
+use Rattle.lexical_rewrite.proofs.record.number_format_of_record.Statement.{statement}
+use Rattle.lexical_rewrite.proofs.record.number_format_of_record.Tie as tie
 
 byte-at-requires : tie.Need-byte-at-requires
 byte-at-requires c κs = search needs
@@ -35,14 +35,14 @@ flag-at-requires-4 : tie.Need-flag-at-requires-4
 flag-at-requires-4 c κs = search needs
 
 returns : tie.Need-returns
-unfolding numberFormatOf
+unfolding numberFormatOfRecord
 returns c =
     let f = c .before .before .before in
     let b = f .before in
     rw (b .before .before .byte-at .ensures, b .before .byte-at2 .ensures, b .byte-at3 .ensures, f .flag-at .ensures, c .before .before .flag-at2 .ensures, c .before .flag-at3 .ensures, c .flag-at4 .ensures)
 
-pub number-format-of-spec : {M : Type 1} → statement M
-number-format-of-spec =
+pub number-format-of-record-spec : {M : Type 1} → statement M
+number-format-of-record-spec =
     tie.close
     (tie.spec
     byte-at-requires

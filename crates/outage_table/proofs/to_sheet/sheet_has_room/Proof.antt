@@ -1,4 +1,4 @@
--- `outage_table::to_sheet::has_room` meets its contract: no rows are longer than 4,552 bytes each, and where that does not settle it they are measured. Assumes nothing.
+-- `outage_table::to_sheet::sheet_has_room` meets its contract: no rows are longer than 4,552 bytes each, and where that does not settle it they are measured. Assumes nothing.
 use Prim.Native.Nat.{_≤_}
 use mathlib.Core.Path.{_≡_, sym, ap, _∙_}
 use native.Mathlib.Omega.{arith}
@@ -9,8 +9,8 @@ use Rattle.lexical_util.proofs.AnswerLaws.{refused-done}
 use Rattle.lexical_write_integer_spec.specs.Digits.{numeral}
 use Rattle.outage_spec.specs.Table.{rowsFrom}
 use Rattle.outage_table.proofs.SheetLaws.{count-digits, room-known, length-found, length-refused}
-use Rattle.outage_table.proofs.to_sheet.has_room.Statement.{statement}
-use Rattle.outage_table.proofs.to_sheet.has_room.Tie as tie
+use Rattle.outage_table.proofs.to_sheet.sheet_has_room.Statement.{statement}
+use Rattle.outage_table.proofs.to_sheet.sheet_has_room.Tie as tie
 
 mul-if1 : tie.Need-mul-if1
 mul-if1 c = search needs
@@ -67,8 +67,8 @@ returns-3 c =
     let all = rowsFrom (a .table .now) (a .n) 0 (a .n) in
     absurd (refused-done _ _ _ (sym (length-refused (a .format) (a .options) all _ (l .rows-length .ensures .0) _ _ (ap ofWritten (c .enum-told .given .1))) ∙ s .pre .3))
 
-pub has-room-spec : {M : Type 1} → statement M
-has-room-spec =
+pub sheet-has-room-spec : {M : Type 1} → statement M
+sheet-has-room-spec =
     tie.close
     (tie.spec
     mul-if1
