@@ -9,6 +9,7 @@ use lexical_format::NumberFormat;
 use lexical_format::Options;
 use lexical_format::RoundMode;
 use lexical_util::Written;
+use lexical_write_float::LONGEST_TEXT;
 use lexical_write_float::write_f32;
 use lexical_write_float::write_f64;
 
@@ -268,8 +269,8 @@ fn longest() {
     let mut o = formats::options();
     o.min_significant_digits = 1200;
     line(true, 1, f, o, ROOM);
-    line(true, 1, f, o, 2275);
-    line(true, 1, f, o, 2274);
+    line(true, 1, f, o, LONGEST_TEXT);
+    line(true, 1, f, o, LONGEST_TEXT - 1);
 }
 
 fn refused_bytes(point: u8, mark: u8) {

@@ -39,7 +39,7 @@ pub extern "C" fn lexical_rewrite_f32(
     rewritten_of(lexical_rewrite::rewrite_f32(text, source, text_format_of(to), buffer))
 }
 
-// Each further station is a record of 19 bytes.
+// Each further station is a record, one behind the other.
 #[no_mangle]
 pub extern "C" fn lexical_chain_f64(
     text: &[u8],

@@ -1,6 +1,6 @@
 -- What a float is, as one answer: document 01, "Float parts" and refusal 7. Both widths by the format. Definitions only.
 use Prim.Native.Nat.{_*_}
-use mathlib.Core.Bool.{true, false, not}
+use mathlib.Core.Bool.{Bool, true, false, not}
 use lib.Dec.{T}
 use lib.Ieee.{Float, nan, inf, fin, Format, up, down}
 use lib.Ieee.Exact.{HasValue}
@@ -13,7 +13,13 @@ use Rattle.lexical_float.specs.Fields.{mantissa, exponent}
 abbrev pub magnitudeOf : Format → Float → Magnitude
 magnitudeOf f x = record { mantissa = mantissa f x; exponent = record { 0 = exponent f x } }
 
--- 7 not finite, or sign bit set (-0 too): all but the first of the three cases, finite with the sign bit clear
+-- what refusal 7 lets through: finite, with the sign bit clear. 7 not finite, or sign bit set (-0 too)
+abbrev pub isPlain : Float → Bool
+isPlain nan = false
+isPlain (inf s) = false
+isPlain (fin s m e) = not s
+
+-- the three cases of a float: plain, finite with the sign bit set, and not finite
 unfoldable pub partsOf : Format → Float → Parts
 partsOf f nan = Special
 partsOf f (inf s) = Special

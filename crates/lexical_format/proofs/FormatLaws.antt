@@ -19,7 +19,7 @@ use Rattle.lexical_exponent.proofs.ExponentLaws.{power-exact}
 use Rattle.lexical_format.specs.declared.format.Pair.{Pair}
 use Rattle.lexical_format.specs.declared.format.NumberFormat.{NumberFormat}
 use Rattle.lexical_format.specs.declared.options.Options.{Options}
-use Rattle.lexical_format.specs.Format.{pairs, findPair, pairOf, badByte, badBytes, badCounts, badBreaks, readingChecks, writingChecks, checkedPair, readingFormat, writingFormat}
+use Rattle.lexical_format.specs.Format.{pairs, findPair, pairOf, badByte, badBytes, badCounts, badBreaks, readingChecks, writingChecks, checkedPair, readingFormat, writingFormat, mostCount}
 
 -- ---- the table of pairs: the radix is 2 ^ b, the base 2 ^ c, and c divides b
 pub record IsPair (p : Pair) : Type 0 where
@@ -157,8 +157,8 @@ readable F o row e = go (pairOf F) refl e
 -- ---- a format that the writer admits
 pub record Writable (F : NumberFormat) (o : Options) (row : Pair) : Type 0 where
   pub reads : Readable F o row
-  pub least : o .«min_significant_digits» ≤ 1200
-  pub most : o .«max_significant_digits» ≤ 1200
+  pub least : o .«min_significant_digits» ≤ mostCount
+  pub most : o .«max_significant_digits» ≤ mostCount
   pub breaks : badBreaks o ≡ false
 
 pub writable : (F : NumberFormat) (o : Options) (row : Pair) → writingFormat F o ≡ done row → Writable F o row
@@ -169,12 +169,12 @@ writable F o row e = go (pairOf F) refl e
     go none q e = absurd (refused-done 1 0 row e)
     go (some found) q e =
         let k = with-row F o found row (writingChecks F o) q e in
-        let a = neither (ltb 1200 (o .«min_significant_digits»)) _ (k .1 .1 .0) in
-        let b = neither (ltb 1200 (o .«max_significant_digits»)) _ (a .1) in
+        let a = neither (ltb mostCount (o .«min_significant_digits»)) _ (k .1 .1 .0) in
+        let b = neither (ltb mostCount (o .«max_significant_digits»)) _ (a .1) in
         record {
           reads = k .0;
-          least = ltb-false 1200 (o .«min_significant_digits») (a .0);
-          most = ltb-false 1200 (o .«max_significant_digits») (b .0);
+          least = ltb-false mostCount (o .«min_significant_digits») (a .0);
+          most = ltb-false mostCount (o .«max_significant_digits») (b .0);
           breaks = k .1 .1 .1 .0;
         }
 

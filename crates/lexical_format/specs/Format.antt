@@ -4,7 +4,7 @@ use mathlib.Core.Bool.{Bool, not, cond, _&&_, _||_}
 use mathlib.Core.List.{List, [], _∷_, _++_}
 use mathlib.Core.Option.{Option, none, some}
 use lib.Dec.{ltb, eqb}
-use lib.IntN.{ℤ, pos, negsuc}
+use lib.IntN.{ℤ, pos, negsuc, negℤ}
 use lib.Signed.{ltZ}
 use Rattle.lexical_util.specs.Answer.{Answer, done, refused, andThen, Check, checked}
 use Rattle.lexical_util.specs.Digit.{isDigit, isRadix}
@@ -45,13 +45,16 @@ badBytes F o =
     badByte (F .«mantissa_radix») (o .«decimal_point») || (badByte (F .«mantissa_radix») (o .exponent) || eqb (o .«decimal_point») (o .exponent))
 
 -- ---- 5: a count above 1,200, or both given and least above most
+abbrev pub mostCount : ℕ
+mostCount = 1200
+
 -- 0 is none
 abbrev pub given : ℕ → Bool
 given n = not (eqb n 0)
 
 unfoldable pub badCounts : Options → Bool
 badCounts o =
-    ltb 1200 (o .«min_significant_digits») || (ltb 1200 (o .«max_significant_digits»)
+    ltb mostCount (o .«min_significant_digits») || (ltb mostCount (o .«max_significant_digits»)
     || (given (o .«min_significant_digits») && (given (o .«max_significant_digits») && ltb (o .«max_significant_digits») (o .«min_significant_digits»))))
 
 -- ---- the breaks, in bits
@@ -73,8 +76,11 @@ abbrev pub outside : ℤ → ℤ → ℤ → Bool
 outside least most z = ltZ z least || ltZ most z
 
 -- 6 a break out of range: low -2,000 to -1, high 1 to 2,000
+abbrev pub farthestBreak : ℕ
+farthestBreak = 2000
+
 unfoldable pub badBreaks : Options → Bool
-badBreaks o = outside (negsuc 1999) (negsuc 0) (lowBreak o) || outside (pos 1) (pos 2000) (highBreak o)
+badBreaks o = outside (negℤ (pos farthestBreak)) (negsuc 0) (lowBreak o) || outside (pos 1) (pos farthestBreak) (highBreak o)
 
 -- ---- the checks of a format in their order; what passes them answers the pair's row, from which b and c come
 -- 2 exponent radix unknown; 3 point or mark

@@ -53,13 +53,20 @@ fn bad_bytes(radix: u32, point: u8, mark: u8) -> bool
     bad_byte(radix, point) || bad_byte(radix, mark) || point == mark
 }
 
-// 5: a count above 1,200, or both given and least above most.
+// The most digits that a count may ask for, and how far from 0 a break may lie: document 01, "Formats".
+pub const MOST_COUNT: u32 = 1200;
+
+const HIGHEST_BREAK: i32 = 2000;
+
+const LOWEST_BREAK: i32 = -HIGHEST_BREAK;
+
+// 5: a count above the most, or both given and least above most.
 fn bad_counts(options: Options) -> bool
     ensures { λ r. ⌜ r ≡ badCounts options ⌝ }
 {
     let least = options.min_significant_digits;
     let most = options.max_significant_digits;
-    least > 1200 || most > 1200 || least != 0 && most != 0 && least > most
+    least > MOST_COUNT || most > MOST_COUNT || least != 0 && most != 0 && least > most
 }
 
 // A break, which is in bits; 0 means absent.
@@ -132,8 +139,8 @@ fn check_writing(format: NumberFormat, options: Options, row: Pair) -> WritingCh
     }
     let low = or_absent(-5, options.negative_exponent_break);
     let high = or_absent(9, options.positive_exponent_break);
-    if outside(BitExponent(-2000), BitExponent(-1), low)
-        || outside(BitExponent(1), BitExponent(2000), high)
+    if outside(BitExponent(LOWEST_BREAK), BitExponent(-1), low)
+        || outside(BitExponent(1), BitExponent(HIGHEST_BREAK), high)
     {
         return WritingCheck::Refused(Refusal {
             number: 6,

@@ -4,6 +4,7 @@ pub mod format;
 pub mod options;
 
 pub use checks::CheckedFormat;
+pub use checks::MOST_COUNT;
 pub use checks::ReadingCheck;
 pub use checks::WritingCheck;
 pub use checks::check;

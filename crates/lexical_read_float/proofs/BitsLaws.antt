@@ -14,13 +14,13 @@ use Rattle.lexical_exponent.specs.Exponent.{clamped, heightAbove, signed}
 use Rattle.lexical_exponent.proofs.ExponentLaws.{clamped-is, height-up, height-down, times-signed, signed-held}
 use Rattle.lexical_format.specs.declared.format.Pair.{Pair}
 use Rattle.lexical_read_float_spec.specs.Shape.{Shape}
-use Rattle.lexical_read_float_spec.specs.Read.{magnitude, hasMinus, basePower, numerator, denominator, floatOf, valueOf}
+use Rattle.lexical_read_float_spec.specs.Read.{magnitude, hasMinus, basePower, numerator, denominator, floatOf, valueOf, longestRead, greatestExponent}
 use Rattle.lexical_read_float_spec.proofs.ReadLaws.{value-within, value-beyond}
 use Rattle.lexical_read_float.specs.declared.scan.Number.{Number}
 use Rattle.lexical_read_float.specs.declared.bits.Powers.{Powers}
 use Rattle.lexical_read_float.specs.Bits.{powersOf}
 use Rattle.lexical_read_float.specs.Kept.{Holds}
-use Rattle.lexical_read_float.specs.Scan.{numberOf}
+use Rattle.lexical_read_float.specs.Scan.{numberOf, tooGreat}
 use Rattle.lexical_read_float.proofs.KeptLaws.{digits-hold}
 
 -- the number that a shape's digits spell
@@ -28,7 +28,7 @@ abbrev pub spelled : Pair → Shape → ℕ
 spelled row s = digitsValue (2 ^ row .b) (s .whole ++ s .fraction)
 
 module _ (f : Format) (row : Pair) (power : ℕ) (t : List ℕ) (s : Shape) (n : Number) (is : n ≡ numberOf t (row .b) power s) where
-  cut : n .exponent .power .1 ≡ min (magnitude power (s .tail)) 32768
+  cut : n .exponent .power .1 ≡ min (magnitude power (s .tail)) tooGreat
   cut = ap (λ (x : Number). x .exponent .power .1) is
 
   sign : n .exponent .power .0 ≡ hasMinus (s .tail)
@@ -37,17 +37,17 @@ module _ (f : Format) (row : Pair) (power : ℕ) (t : List ℕ) (s : Shape) (n :
   counted : n .fraction .0 ≡ pos (length (s .fraction))
   counted = ap (λ (x : Number). x .fraction .0) is
 
-  pub refused-ten : 32767 < n .exponent .power .1 → refused 10 (n .exponent .place) ≡ valueOf f row power t s
+  pub refused-ten : greatestExponent < n .exponent .power .1 → refused 10 (n .exponent .place) ≡ valueOf f row power t s
   refused-ten h =
       let c = cut in
-      let m : 32767 < magnitude power (s .tail) = omega arith in
+      let m : greatestExponent < magnitude power (s .tail) = omega arith in
       ap (refused 10) (ap (λ (x : Number). x .exponent .place) is) ∙ sym (value-beyond f row power t s m)
 
-  module _ (few : row .b * natAbs (n .fraction .0) ≤ 20480) (h : n .exponent .power .1 ≤ 32767) (small : row .c * n .exponent .power .1 ≤ 163835) where
+  module _ (few : row .b * natAbs (n .fraction .0) ≤ 5 * longestRead) (h : n .exponent .power .1 ≤ greatestExponent) (small : row .c * n .exponent .power .1 ≤ 5 * greatestExponent) where
     value-is : (a c : ℕ) → a ≡ numerator row power s → c ≡ denominator row power s → floatOf f a c ≡ valueOf f row power t s
     value-is a c p q =
         let k = cut in
-        let m : magnitude power (s .tail) ≤ 32767 = omega arith in
+        let m : magnitude power (s .tail) ≤ greatestExponent = omega arith in
         ap₂ (floatOf f) p q ∙ sym (value-within f row power t s m)
 
     exact : n .exponent .power .1 ≡ magnitude power (s .tail)
@@ -69,12 +69,12 @@ module _ (f : Format) (row : Pair) (power : ℕ) (t : List ℕ) (s : Shape) (n :
 
     places-are : places ≡ pos behind
     places-are =
-        let l : row .b * length (s .fraction) ≤ 20480 = subst (λ (z : ℤ). row .b * natAbs z ≤ 20480) counted few in
+        let l : row .b * length (s .fraction) ≤ 5 * longestRead = subst (λ (z : ℤ). row .b * natAbs z ≤ 5 * longestRead) counted few in
         ap (λ (z : ℤ). clamped (pos (row .b) *ℤ z)) counted ∙ clamped-is (pos behind) (omega arith)
 
     scaled-is : (b : Bool) → hasMinus (s .tail) ≡ b → scaled ≡ signed b lift
     scaled-is b w =
-        let l : row .c * magnitude power (s .tail) ≤ 163835 = subst (λ (m : ℕ). row .c * m ≤ 163835) exact small in
+        let l : row .c * magnitude power (s .tail) ≤ 5 * greatestExponent = subst (λ (m : ℕ). row .c * m ≤ 5 * greatestExponent) exact small in
         ap₂ (λ (x : Bool) (m : ℕ). clamped (pos (row .c) *ℤ signed x m)) (sign ∙ w) exact ∙ ap clamped (sym (times-signed b (row .c) _)) ∙ signed-held b lift (omega arith)
 
     module _ (r : Answer Float) (p : Powers) (e : p ≡ powersOf places scaled) (q : r ≡ floatOf f (spelled row s * 2 ^ p .up) (2 ^ p .down)) where

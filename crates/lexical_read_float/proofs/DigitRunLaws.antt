@@ -16,6 +16,7 @@ use lib.Seq.{drop-cons}
 use Rattle.lexical_util.specs.Digit.{digitValue, digitIn, readOn}
 use Rattle.lexical_read_float_spec.specs.Parse.{more, run}
 use Rattle.lexical_read_float.specs.Digits.{IsDigitOrNone, digitsFrom, endFrom, allZero}
+use Rattle.lexical_read_float.specs.Scan.{tooGreat}
 
 -- ---- the digit of a radix that a byte is, by a number that tells its digit value
 module _ (radix x d : ℕ) (small : radix ≤ 32) (is : IsDigitOrNone (digitValue x) d) where
@@ -76,29 +77,29 @@ module _ (radix : ℕ) (t : List ℕ) (from i : ℕ) (ends : endFrom radix t i �
 grows : (a radix : ℕ) → 1 ≤ radix → a ≤ a * radix
 grows a radix h = subst (λ (x : ℕ). x ≤ a * radix) (mul-one a) (mul-le-mul-left a h)
 
-saturates-step : (radix a b d : ℕ) → 1 ≤ radix → min a 32768 ≡ min b 32768 → min (a * radix + d) 32768 ≡ min (b * radix + d) 32768
-saturates-step radix a b d h e = go (ltb a 32768) refl
+saturates-step : (radix a b d : ℕ) → 1 ≤ radix → min a tooGreat ≡ min b tooGreat → min (a * radix + d) tooGreat ≡ min (b * radix + d) tooGreat
+saturates-step radix a b d h e = go (ltb a tooGreat) refl
   where
-    go : (t : Bool) → ltb a 32768 ≡ t → min (a * radix + d) 32768 ≡ min (b * radix + d) 32768
-    go true q = let l = ltb-true a 32768 q in ap (λ (x : ℕ). min (x * radix + d) 32768) (let z : a ≡ b = omega arith in z)
-    go false q = let l = ltb-false a 32768 q in let u = grows a radix h in let v = grows b radix h in omega arith
+    go : (t : Bool) → ltb a tooGreat ≡ t → min (a * radix + d) tooGreat ≡ min (b * radix + d) tooGreat
+    go true q = let l = ltb-true a tooGreat q in ap (λ (x : ℕ). min (x * radix + d) tooGreat) (let z : a ≡ b = omega arith in z)
+    go false q = let l = ltb-false a tooGreat q in let u = grows a radix h in let v = grows b radix h in omega arith
 
-saturates : (radix : ℕ) (ds : List ℕ) (a b : ℕ) → 1 ≤ radix → min a 32768 ≡ min b 32768 → min (readOn radix a ds) 32768 ≡ min (readOn radix b ds) 32768
+saturates : (radix : ℕ) (ds : List ℕ) (a b : ℕ) → 1 ≤ radix → min a tooGreat ≡ min b tooGreat → min (readOn radix a ds) tooGreat ≡ min (readOn radix b ds) tooGreat
 unfolding readOn
 saturates radix [] a b h e = e
 saturates radix (d ∷ ds) a b h e = saturates radix ds (a * radix + d) (b * radix + d) h (saturates-step radix a b d h e)
 
 -- the sum x so far, cut off, and the digits ds still to come make w
-module _ (radix x : ℕ) (ds : List ℕ) (w : ℕ) (makes : min (readOn radix x ds) 32768 ≡ w) where
-  pub sum-done : ds ≡ [] → x ≤ 32768 → x ≡ w
+module _ (radix x : ℕ) (ds : List ℕ) (w : ℕ) (makes : min (readOn radix x ds) tooGreat ≡ w) where
+  pub sum-done : ds ≡ [] → x ≤ tooGreat → x ≡ w
   unfolding readOn
-  sum-done e h = (let z : x ≡ min x 32768 = omega arith in z) ∙ ap (λ (l : List ℕ). min (readOn radix x l) 32768) (sym e) ∙ makes
+  sum-done e h = (let z : x ≡ min x tooGreat = omega arith in z) ∙ ap (λ (l : List ℕ). min (readOn radix x l) tooGreat) (sym e) ∙ makes
 
-  pub sum-on : (d y : ℕ) (rest : List ℕ) → 1 ≤ radix → ds ≡ d ∷ rest → y ≡ min (x * radix + d) 32768 → min (readOn radix y rest) 32768 ≡ w
+  pub sum-on : (d y : ℕ) (rest : List ℕ) → 1 ≤ radix → ds ≡ d ∷ rest → y ≡ min (x * radix + d) tooGreat → min (readOn radix y rest) tooGreat ≡ w
   unfolding readOn
   sum-on d y rest h e f =
-      saturates radix rest y (x * radix + d) h (let z : min y 32768 ≡ min (x * radix + d) 32768 = omega arith in z)
-      ∙ ap (λ (l : List ℕ). min (readOn radix x l) 32768) (sym e)
+      saturates radix rest y (x * radix + d) h (let z : min y tooGreat ≡ min (x * radix + d) tooGreat = omega arith in z)
+      ∙ ap (λ (l : List ℕ). min (readOn radix x l) tooGreat) (sym e)
       ∙ makes
 
 -- ---- whether all digits are 0: those so far, by the bits that any of them has, and those still to come

@@ -1,5 +1,5 @@
 -- The shape of a text, from places in it: what stands there decides how the definition of its shape goes on. Assumes nothing.
-use Prim.Native.Nat.{ℕ, suc, _+_, _-_, _≤_, _<_, min}
+use Prim.Native.Nat.{ℕ, suc, _+_, _-_, _≤_, _<_, min, _*_}
 use mathlib.Core.Path.{_≡_, refl, sym, ap, ap₂, _∙_, subst}
 use mathlib.Core.Bool.{Bool, true, false}
 use mathlib.Core.List.{List, [], _∷_, _++_, append-nil}
@@ -15,7 +15,7 @@ use Rattle.lexical_util.specs.Digit.{digitIn, digitsValue}
 use Rattle.lexical_exponent.specs.declared.exponent.DigitExponent.{DigitExponent}
 use Rattle.lexical_read_float_spec.specs.Shape.{Grammar, Sign, unsigned, plus, minus, Tail, exponent}
 use Rattle.lexical_read_float_spec.specs.Parse.{more, run, Parsed, found, stuck, mapParsed, allDigits, exponentDigits, signedExponent, parseTail, withTail, afterWhole, oneOrMore, parse}
-use Rattle.lexical_read_float_spec.specs.Read.{hasMinus, exponentPlace}
+use Rattle.lexical_read_float_spec.specs.Read.{hasMinus, exponentPlace, longestRead}
 use Rattle.lexical_read_float_spec.proofs.RunLaws.{Head}
 use Rattle.lexical_read_float_spec.proofs.ParseLaws.{no-point}
 use Rattle.lexical_read_float.specs.declared.kept.Kept.{Kept}
@@ -25,7 +25,7 @@ use Rattle.lexical_read_float.specs.declared.scan.ScannedTail.the-varian
 use Rattle.lexical_read_float.specs.declared.scan.Scanned.{Scanned}
 use Rattle.lexical_read_float.specs.declared.scan.Scanned.the-variants as scanned
 use Rattle.lexical_read_float.specs.Kept.{empty, keepDigits}
-use Rattle.lexical_read_float.specs.Scan.{beginsWith, withFraction, scannedTail, scannedNumber, scannedShape, IsBounded}
+use Rattle.lexical_read_float.specs.Scan.{beginsWith, withFraction, scannedTail, scannedNumber, scannedShape, IsBounded, tooGreat}
 use Rattle.lexical_read_float.specs.Digits.{digitsFrom, endFrom}
 use Rattle.lexical_read_float.proofs.KeptLaws.{keep-append}
 
@@ -74,14 +74,14 @@ module _ (t : List ℕ) (radix : ℕ) (s : Sign) (from : ℕ) where
   more-there (d ∷ ds) (x ∷ xs) e n h = ap tail.Wrong (sym (ap (λ (l : List ℕ). length t - length l) e ∙ place-of t (from + suc (length ds)) (let y : from + suc (length ds) ≤ length t = omega arith in y)))
 
   all-there : (g left : List ℕ) → left ≡ drop (from + length g) t → (from + length g ≡ from → ⊥) → from + length g ≡ length t
-      → (n : Bool) (m : ℕ) → hasMinus (exponent s []) ≡ n → m ≡ min (digitsValue radix g) 32768
+      → (n : Bool) (m : ℕ) → hasMinus (exponent s []) ≡ n → m ≡ min (digitsValue radix g) tooGreat
       → tail.Found (record { power = record { 0 = n; 1 = m }; place = from }) ≡ Wanted g left
   unfolding exponentPlace
   all-there [] left e z h n m p q = absurd (z (let y : from + 0 ≡ from = omega arith in y))
   all-there (d ∷ ds) (x ∷ xs) e z h n m p q = absurd (let y = ap (λ (l : List ℕ). length l) e ∙ length-drop (from + suc (length ds)) t in omega arith)
   all-there (d ∷ ds) [] e z h n m p q =
       let w : from ≡ length t - suc (length ds) = omega arith in
-      rw (sym p, q, w) (ap (λ (b : Bool). tail.Found (record { power = record { 0 = b; 1 = min (digitsValue radix (d ∷ ds)) 32768 }; place = length t - suc (length ds) })) (sym (same-sign s (d ∷ ds))))
+      rw (sym p, q, w) (ap (λ (b : Bool). tail.Found (record { power = record { 0 = b; 1 = min (digitsValue radix (d ∷ ds)) tooGreat }; place = length t - suc (length ds) })) (sym (same-sign s (d ∷ ds))))
 
   -- the same of the digits from that place on
   left-is : run radix (drop from t) .left ≡ drop (endFrom radix t from) t
@@ -94,7 +94,7 @@ module _ (t : List ℕ) (radix : ℕ) (s : Sign) (from : ℕ) where
   digits-more end e n h = ap tail.Wrong e ∙ more-there (digitsFrom radix t from) _ left-is (λ z. n (e ∙ z)) (subst (λ (k : ℕ). k < length t) e h)
 
   pub digits-all : (end : ℕ) → end ≡ endFrom radix t from → (end ≡ from → ⊥) → end ≡ length t
-      → (n : Bool) (m : ℕ) → hasMinus (exponent s []) ≡ n → m ≡ min (digitsValue radix (digitsFrom radix t from)) 32768
+      → (n : Bool) (m : ℕ) → hasMinus (exponent s []) ≡ n → m ≡ min (digitsValue radix (digitsFrom radix t from)) tooGreat
       → tail.Found (record { power = record { 0 = n; 1 = m }; place = from }) ≡ scannedTail t radix (exponentDigits radix s (drop from t))
   digits-all end e n h b m p q = all-there (digitsFrom radix t from) _ left-is (λ z. n (e ∙ z)) (sym e ∙ h) b m p q
 
@@ -232,7 +232,7 @@ module _ (t : List ℕ) (b : ℕ) (G : Grammar) where
           go true n = pointed (begins-inside t end (G .point) h n) n
           go false n = plain n
 
-pub number-bounded : (k : Kept) (fraction : DigitExponent) (τ : ScannedTail) (r : Scanned) → k .below ≤ 20480 → natAbs (fraction .0) ≤ 4096 → r ≡ scannedNumber k fraction τ → IsBounded r
+pub number-bounded : (k : Kept) (fraction : DigitExponent) (τ : ScannedTail) (r : Scanned) → k .below ≤ 5 * longestRead → natAbs (fraction .0) ≤ longestRead → r ≡ scannedNumber k fraction τ → IsBounded r
 number-bounded k fraction τ r h l e = subst IsBounded (sym e) (go τ)
   where
     go : (τ : ScannedTail) → IsBounded (scannedNumber k fraction τ)

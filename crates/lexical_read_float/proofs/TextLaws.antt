@@ -20,7 +20,7 @@ use Rattle.lexical_format.specs.Format.{readingFormat, ofReadingCheck}
 use Rattle.lexical_format.proofs.FormatLaws.{readable}
 use Rattle.lexical_read_float_spec.specs.Shape.{Shape}
 use Rattle.lexical_read_float_spec.specs.Parse.{Parsed, found, stuck, parse, ofParsed, shapeOf}
-use Rattle.lexical_read_float_spec.specs.Read.{grammarOf, valueOf, readText, readFloat}
+use Rattle.lexical_read_float_spec.specs.Read.{grammarOf, valueOf, readText, readFloat, longestRead}
 use Rattle.lexical_read_float_spec.specs.Claims.{IsNearest, IsServed}
 use Rattle.lexical_read_float_spec.proofs.RunLaws.{digits-append}
 use Rattle.lexical_read_float_spec.proofs.ReadLaws.{found-is-printed, answer-nearest, texts-are-served}
@@ -63,15 +63,15 @@ pub record IsNumberOf (f : Format) (F : NumberFormat) (o : Options) (row : Pair)
   pub full : IsFull (n .kept)
 
 module _ (f : Format) (F : NumberFormat) (o : Options) (row : Pair) (t : List ℕ) where
-  pub text-long : 4096 < length t → refused 12 0 ≡ readText f (grammarOf F o) t row
+  pub text-long : longestRead < length t → refused 12 0 ≡ readText f (grammarOf F o) t row
   unfolding readText
-  text-long h = rw (lt-ltb 4096 (length t) h)
+  text-long h = rw (lt-ltb longestRead (length t) h)
 
-  by-shape : length t ≤ 4096 → readText f (grammarOf F o) t row ≡ andThen (shapeOf (grammarOf F o) t) (valueOf f row (F .«exponent_radix») t)
+  by-shape : length t ≤ longestRead → readText f (grammarOf F o) t row ≡ andThen (shapeOf (grammarOf F o) t) (valueOf f row (F .«exponent_radix») t)
   unfolding readText
-  by-shape h = rw (le-ltb 4096 (length t) h)
+  by-shape h = rw (le-ltb longestRead (length t) h)
 
-  module _ (r : Scanned) (is : r ≡ scannedShape t (row .b) (F .«exponent_radix») (parse (grammarOf F o) t)) (short : length t ≤ 4096) where
+  module _ (r : Scanned) (is : r ≡ scannedShape t (row .b) (F .«exponent_radix») (parse (grammarOf F o) t)) (short : length t ≤ longestRead) where
     pub text-wrong : (place : ℕ) → r ≡ scanned.Wrong place → refused 9 place ≡ readText f (grammarOf F o) t row
     unfolding shapeOf
     text-wrong place e = go (parse (grammarOf F o) t) refl (sym is ∙ e)

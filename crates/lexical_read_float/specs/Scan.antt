@@ -1,5 +1,5 @@
 -- What the code's one pass over a text finds, by the shape that the text has. No exported contract cites it. Definitions only.
-use Prim.Native.Nat.{ℕ, _+_, _-_, _≤_, min}
+use Prim.Native.Nat.{ℕ, _+_, _-_, _≤_, min, _*_}
 use mathlib.Core.Bool.{Bool, true, false}
 use mathlib.Core.List.{List, [], _∷_, _++_}
 use lib.Dec.{eqb}
@@ -8,7 +8,7 @@ use lib.ListN.{length}
 use Rattle.lexical_exponent.specs.declared.exponent.DigitExponent.{DigitExponent}
 use Rattle.lexical_read_float_spec.specs.Shape.{Grammar, Tail, Shape}
 use Rattle.lexical_read_float_spec.specs.Parse.{Parsed, found, stuck}
-use Rattle.lexical_read_float_spec.specs.Read.{magnitude, hasMinus, exponentPlace}
+use Rattle.lexical_read_float_spec.specs.Read.{greatestExponent, magnitude, hasMinus, exponentPlace, longestRead}
 use Rattle.lexical_read_float.specs.declared.kept.Kept.{Kept}
 use Rattle.lexical_read_float.specs.declared.scan.Mantissa.{Mantissa}
 use Rattle.lexical_read_float.specs.declared.scan.Exponent.{Exponent}
@@ -33,9 +33,13 @@ abbrev pub withFraction : List ℕ → ℕ → ℕ → Kept → ℕ → Bool →
 withFraction t radix b kept end true = record { end = endFrom radix t (end + 1); kept = keepDigits b kept (digitsFrom radix t (end + 1)); fraction = record { 0 = pos (length (digitsFrom radix t (end + 1))) } }
 withFraction t radix b kept end false = record { end = end; kept = kept; fraction = record { 0 = pos 0 } }
 
+-- the first magnitude that is refused, which stands for all above it
+abbrev pub tooGreat : ℕ
+tooGreat = greatestExponent + 1
+
 -- the exponent of a text t
 abbrev pub exponentOf : List ℕ → ℕ → Tail → Exponent
-exponentOf t radix τ = record { power = record { 0 = hasMinus τ; 1 = min (magnitude radix τ) 32768 }; place = exponentPlace t τ }
+exponentOf t radix τ = record { power = record { 0 = hasMinus τ; 1 = min (magnitude radix τ) tooGreat }; place = exponentPlace t τ }
 
 abbrev pub scannedTail : List ℕ → ℕ → Parsed Tail → ScannedTail
 scannedTail t radix (found τ) = tail.Found (exponentOf t radix τ)
@@ -60,8 +64,8 @@ scannedShape t b exponentRadix (stuck left) = scanned.Wrong (length t - length l
 
 -- numbers small enough for the sums that a value needs
 pub record Bounded (n : Number) : Type 0 where
-  pub few-below : n .kept .below ≤ 20480
-  pub few-digits : natAbs (n .fraction .0) ≤ 4096
+  pub few-below : n .kept .below ≤ 5 * longestRead
+  pub few-digits : natAbs (n .fraction .0) ≤ longestRead
 
 abbrev pub IsBounded : Scanned → Type 0
 IsBounded (scanned.Found n) = Bounded n

@@ -1,7 +1,7 @@
 // The bits of the float that a text is read as, or the first refusal: one body on u64, with the width beside it.
 ghost use mathlib.Core.Path.{_≡_};
 ghost use mathlib.Core.List.{List, _++_};
-ghost use Prim.Native.Nat.{ℕ, _^_, _≤_};
+ghost use Prim.Native.Nat.{ℕ, _^_, _≤_, _*_};
 ghost use lib.IntN.{pos};
 ghost use lib.Ieee.{Format};
 ghost use Rattle.lexical_util.specs.Answer.{done};
@@ -10,7 +10,7 @@ ghost use Rattle.lexical_util.specs.Digit.{AreDigits};
 ghost use Rattle.lexical_float.specs.Encoding.{ofWidth};
 ghost use Rattle.lexical_format.specs.Format.{readingFormat};
 ghost use Rattle.lexical_read_float_spec.specs.Shape.{Shape};
-ghost use Rattle.lexical_read_float_spec.specs.Read.{grammarOf, valueOf, readText};
+ghost use Rattle.lexical_read_float_spec.specs.Read.{grammarOf, valueOf, readText, longestRead, greatestExponent};
 ghost use Rattle.lexical_read_float.specs.Scan.{numberOf, Bounded};
 ghost use Rattle.lexical_read_float.specs.Kept.{IsFull};
 ghost use Rattle.lexical_read_float.specs.Rounding.{ofRounded, IsFinite};
@@ -29,6 +29,11 @@ use lexical_format::NumberFormat;
 use lexical_format::Options;
 use lexical_format::Pair;
 use lexical_util::Refusal;
+
+// The longest text that is read, and the greatest magnitude of an exponent: document 01, "Read a float".
+pub const LONGEST_READ: usize = 4096;
+
+pub(crate) const GREATEST_EXPONENT: u64 = 32767;
 
 pub(crate) enum FloatBits {
     Bits(u64),
@@ -57,7 +62,7 @@ struct Powers {
 
 // Digits behind the point divide. So does the exponent's power where it is below 0; else it multiplies.
 fn powers_of(places: BitExponent, power: BitExponent) -> Powers
-    requires { ⌜ (heightAbove (places .0) (pos 0) ≤ 20480) × (heightAbove (pos 0) (power .0) ≤ 163835) ⌝ }
+    requires { ⌜ (heightAbove (places .0) (pos 0) ≤ 5 * longestRead) × (heightAbove (pos 0) (power .0) ≤ 5 * greatestExponent) ⌝ }
     ensures { λ r. ⌜ r ≡ powersOf (places .0) (power .0) ⌝ }
 {
     let none = BitExponent(0);
@@ -79,7 +84,7 @@ fn value_bits(number: Number, row: Pair, width: Width) -> FloatBits
     let kept = number.kept;
     let fraction = number.fraction;
     let power = exponent.power;
-    if power.1 > 32767 {
+    if power.1 > GREATEST_EXPONENT {
         return FloatBits::Refused(Refusal {
             number: 10,
             place: exponent.place,
@@ -103,7 +108,7 @@ pub(crate) fn text_bits(
     ensures { λ r. ⌜ ofFloatBits (ofWidth width) r ≡ readText (ofWidth width) (grammarOf format options) (now (text .entry)) row ⌝ }
     ensures finite { λ r. ⌜ AreFinite (ofWidth width) r ⌝ }
 {
-    if text.len() > 4096 {
+    if text.len() > LONGEST_READ {
         return FloatBits::Refused(Refusal {
             number: 12,
             place: 0,

@@ -6,6 +6,9 @@ ghost use lib.ListN.{length};
 ghost use Rattle.lexical_util.specs.Digit.{digitValue, digitsValue};
 ghost use Rattle.lexical_read_float.specs.Kept.{keepDigits};
 ghost use Rattle.lexical_read_float.specs.Digits.{IsDigitOrNone, allZero, digitsFrom, endFrom, FilledBits};
+ghost use Rattle.lexical_read_float_spec.specs.Read.{longestRead};
+ghost use Rattle.lexical_read_float.specs.Scan.{tooGreat};
+use crate::bits::GREATEST_EXPONENT;
 use crate::kept::Kept;
 use lexical_exponent::BitExponent;
 use lexical_exponent::DigitExponent;
@@ -30,7 +33,7 @@ pub(crate) struct MantissaDigits {
     pub kept: Kept,
 }
 
-// Digits of an exponent: where they end, and the number that they spell, or 32,768 for any above.
+// Digits of an exponent: where they end, and the number that they spell, or the first one that is too great for any above.
 pub(crate) struct ExponentDigits {
     pub end: usize,
     pub magnitude: u32,
@@ -111,7 +114,7 @@ pub(crate) fn mantissa_digits(
     b: u32,
     start: Kept,
 ) -> MantissaDigits
-    requires { ⌜ (from ≤ length (now text)) × (length (now text) ≤ 4096) × (radix ≤ 32) × (b ≤ 5) × (start .below ≤ 5 * from) ⌝ }
+    requires { ⌜ (from ≤ length (now text)) × (length (now text) ≤ longestRead) × (radix ≤ 32) × (b ≤ 5) × (start .below ≤ 5 * from) ⌝ }
     ensures { λ r. ⌜ (r .end ≡ endFrom radix (now (text .entry)) from) × (r .kept ≡ keepDigits b start (digitsFrom radix (now (text .entry)) from)) × (r .kept .below ≤ 5 * r .end) × (r .end ≤ length (now (text .entry))) ⌝ }
 {
     let leading = leading_digits(text, from, radix, b, start.bits);
@@ -140,17 +143,20 @@ pub(crate) fn mantissa_digits(
     }
 }
 
-// The least of a number and 32,768: what is above 32,767 is refused, however far.
+// The first magnitude that is refused. However far an exponent lies above it, it is this one.
+const TOO_GREAT: u32 = GREATEST_EXPONENT as u32 + 1;
+
+// The least of a number and that one.
 fn saturated(value: u32) -> u32
-    ensures { λ r. ⌜ r ≡ min value 32768 ⌝ }
+    ensures { λ r. ⌜ r ≡ min value tooGreat ⌝ }
 {
-    if value > 32768 { 32768 } else { value }
+    if value > TOO_GREAT { TOO_GREAT } else { value }
 }
 
 // The exponent digits from a place on. The sum saturates, so that no number of digits makes it wrap.
 pub(crate) fn exponent_digits(text: &[u8], from: usize, radix: u32) -> ExponentDigits
     requires { ⌜ (from ≤ length (now text)) × (1 ≤ radix) × (radix ≤ 32) ⌝ }
-    ensures { λ r. ⌜ (r .end ≡ endFrom radix (now (text .entry)) from) × (r .magnitude ≡ min (digitsValue radix (digitsFrom radix (now (text .entry)) from)) 32768) × (r .end ≤ length (now (text .entry))) ⌝ }
+    ensures { λ r. ⌜ (r .end ≡ endFrom radix (now (text .entry)) from) × (r .magnitude ≡ min (digitsValue radix (digitsFrom radix (now (text .entry)) from)) tooGreat) × (r .end ≤ length (now (text .entry))) ⌝ }
 {
     let mut magnitude: u32 = 0;
     let mut i = from;

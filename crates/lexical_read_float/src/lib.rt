@@ -6,6 +6,7 @@ pub mod read;
 mod round;
 mod scan;
 
+pub use bits::LONGEST_READ;
 pub use read::ReadF32;
 pub use read::ReadF64;
 pub use read::read_f32;

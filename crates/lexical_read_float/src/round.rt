@@ -3,7 +3,7 @@ ghost use mathlib.Core.Path.{_≡_};
 ghost use Prim.Native.Nat.{ℕ, _+_, _*_, _/_, _^_, _≤_, _<_};
 ghost use lib.Ieee.{low};
 ghost use Rattle.lexical_float.specs.Encoding.{ofWidth};
-ghost use Rattle.lexical_read_float_spec.specs.Read.{floatOf};
+ghost use Rattle.lexical_read_float_spec.specs.Read.{floatOf, longestRead};
 ghost use Rattle.lexical_read_float.specs.Guard.{isClear, guarded, roundedUp};
 ghost use Rattle.lexical_read_float.specs.Pattern.{lift};
 ghost use Rattle.lexical_read_float.specs.Kept.{full, IsFull, Holds};
@@ -117,7 +117,7 @@ fn round_bits(bits: u64, clear: bool, up: u32, down: u32, width: Width) -> Round
 
 // The number that the bits stand for, times 2^up / 2^down. Where nothing is below the bits, they are first moved up to the highest place.
 pub(crate) fn round_kept(kept: Kept, up: u32, down: u32, width: Width) -> Rounded
-    requires { ⌜ IsFull kept × (kept .below ≤ 20480) × (up ≤ 200000) × (down ≤ 200000) ⌝ }
+    requires { ⌜ IsFull kept × (kept .below ≤ 5 * longestRead) × (up ≤ 200000) × (down ≤ 200000) ⌝ }
     ensures { λ r. ⌜ ((n : ℕ) → Holds n kept → ofRounded (ofWidth width) r ≡ floatOf (ofWidth width) (n * 2 ^ up) (2 ^ down)) ⌝ }
     ensures finite { λ r. ⌜ IsFinite (ofWidth width) r ⌝ }
 {

@@ -6,7 +6,7 @@ ghost use lib.IntN.{natAbs};
 ghost use lib.ListN.{length, drop};
 ghost use Rattle.lexical_read_float_spec.specs.Shape.{Sign, exponent};
 ghost use Rattle.lexical_read_float_spec.specs.Parse.{exponentDigits, signedExponent, parseTail, parse};
-ghost use Rattle.lexical_read_float_spec.specs.Read.{hasMinus};
+ghost use Rattle.lexical_read_float_spec.specs.Read.{hasMinus, longestRead};
 ghost use Rattle.lexical_read_float.specs.Scan.{grammar, beginsWith, withFraction, scannedTail, scannedNumber, scannedShape, IsBounded};
 use crate::digits::exponent_digits;
 use crate::digits::mantissa_digits;
@@ -127,9 +127,9 @@ struct Mantissa {
 
 // The digits in front of a place, with those behind the point if it stands there.
 fn with_fraction(text: &[u8], end: usize, radix: u32, b: u32, point: u8, kept: Kept) -> Mantissa
-    requires { ⌜ (end ≤ length (now text)) × (length (now text) ≤ 4096) × (radix ≤ 32) × (b ≤ 5) × (kept .below ≤ 5 * end) ⌝ }
+    requires { ⌜ (end ≤ length (now text)) × (length (now text) ≤ longestRead) × (radix ≤ 32) × (b ≤ 5) × (kept .below ≤ 5 * end) ⌝ }
     ensures { λ r. ⌜ r ≡ withFraction (now (text .entry)) radix b kept end (beginsWith point (drop end (now (text .entry)))) ⌝ }
-    ensures room { λ r. ⌜ (r .end ≤ length (now (text .entry))) × (r .kept .below ≤ 5 * r .end) × (natAbs (r .fraction .0) ≤ 4096) ⌝ }
+    ensures room { λ r. ⌜ (r .end ≤ length (now (text .entry))) × (r .kept .below ≤ 5 * r .end) × (natAbs (r .fraction .0) ≤ longestRead) ⌝ }
 {
     if stands_at(text, end, point) {
         let from = end + 1;
@@ -158,7 +158,7 @@ pub(crate) fn scan(
     point: u8,
     mark: u8,
 ) -> Scanned
-    requires { ⌜ (length (now text) ≤ 4096) × (radix ≤ 32) × (b ≤ 5) × (1 ≤ «exponent_radix») × («exponent_radix» ≤ 32) ⌝ }
+    requires { ⌜ (length (now text) ≤ longestRead) × (radix ≤ 32) × (b ≤ 5) × (1 ≤ «exponent_radix») × («exponent_radix» ≤ 32) ⌝ }
     ensures { λ r. ⌜ r ≡ scannedShape (now (text .entry)) b «exponent_radix» (parse (grammar radix «exponent_radix» point mark) (now (text .entry))) ⌝ }
     ensures bounded { λ r. ⌜ IsBounded r ⌝ }
 {

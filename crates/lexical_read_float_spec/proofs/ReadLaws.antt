@@ -23,7 +23,7 @@ use Rattle.lexical_format.proofs.FormatLaws.{readable}
 use Rattle.lexical_read_float_spec.specs.Shape.{Shape, print}
 use Rattle.lexical_read_float_spec.specs.Parse.{Parsed, found, stuck, parse, ofParsed, shapeOf, WrongAt}
 use Rattle.lexical_read_float_spec.specs.Round.{tooLarge, Nearest}
-use Rattle.lexical_read_float_spec.specs.Read.{grammarOf, magnitude, hasMinus, basePower, numerator, denominator, floatOf, exponentTooLarge, exponentPlace, valueOf, readText, readFloat}
+use Rattle.lexical_read_float_spec.specs.Read.{grammarOf, magnitude, hasMinus, basePower, numerator, denominator, floatOf, exponentTooLarge, exponentPlace, valueOf, readText, readFloat, longestRead, greatestExponent}
 use Rattle.lexical_read_float_spec.specs.Claims.{PrintedIsRead, FoundIsPrinted, PlaceIsLeast, RoundIsNearest, OnlyOneIsNearest, NearestToText, ReadIsNearest, IsNearest, TextsAreServed}
 use Rattle.lexical_read_float_spec.proofs.ParseLaws.{Apart, parse-print}
 use Rattle.lexical_read_float_spec.proofs.PlaceLaws.{found-prints, wrong-at}
@@ -122,7 +122,7 @@ read-is-nearest f F o t x h = go (readingFormat F o) refl h
     short row e false q = shaped row e (shapeOf (grammarOf F o) t) refl q
 
     go : (a : Answer Pair) → readingFormat F o ≡ a → andThen a (readText f (grammarOf F o) t) ≡ done x → NearestToText f F o t x
-    go (done row) e q = short row e (ltb 4096 (length t)) q
+    go (done row) e q = short row e (ltb longestRead (length t)) q
     go (refused n i) e q = absurd (refused-done n i x q)
 
 pub answer-nearest : (f : Format) (F : NumberFormat) (o : Options) (t : List ℕ) → IsNearest f F o t (readFloat f F o t)
@@ -137,17 +137,17 @@ module _ (f : Format) (row : Pair) (power : ℕ) (t : List ℕ) (s : Shape) wher
   abbrev decided : Bool → Answer Float
   decided b = elim b [ true ↦ refused 10 (exponentPlace t (s .tail)) | false ↦ floatOf f (numerator row power s) (denominator row power s) ]
 
-  pub value-within : magnitude power (s .tail) ≤ 32767 → valueOf f row power t s ≡ floatOf f (numerator row power s) (denominator row power s)
+  pub value-within : magnitude power (s .tail) ≤ greatestExponent → valueOf f row power t s ≡ floatOf f (numerator row power s) (denominator row power s)
   unfolding valueOf exponentTooLarge
-  value-within h = ap decided (le-ltb 32767 (magnitude power (s .tail)) h)
+  value-within h = ap decided (le-ltb greatestExponent (magnitude power (s .tail)) h)
 
-  pub value-beyond : 32767 < magnitude power (s .tail) → valueOf f row power t s ≡ refused 10 (exponentPlace t (s .tail))
+  pub value-beyond : greatestExponent < magnitude power (s .tail) → valueOf f row power t s ≡ refused 10 (exponentPlace t (s .tail))
   unfolding valueOf exponentTooLarge
-  value-beyond h = ap decided (lt-ltb 32767 (magnitude power (s .tail)) h)
+  value-beyond h = ap decided (lt-ltb greatestExponent (magnitude power (s .tail)) h)
 
 -- ---- no text of a shape is refused
 pub texts-are-served : TextsAreServed
 unfolding readFloat readText floatOf
 texts-are-served f F o t row s e short formed printed small below =
     let shaped : shapeOf (grammarOf F o) t ≡ done s = subst (λ (u : List ℕ). shapeOf (grammarOf F o) u ≡ done s) printed (printed-is-read F o row s e formed) in
-    rw (e, le-ltb 4096 (length t) short, shaped, value-within f row (F .«exponent_radix») t s small, below)
+    rw (e, le-ltb longestRead (length t) short, shaped, value-within f row (F .«exponent_radix») t s small, below)

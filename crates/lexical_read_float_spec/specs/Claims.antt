@@ -13,7 +13,7 @@ use Rattle.lexical_format.specs.Format.{readingFormat}
 use Rattle.lexical_read_float_spec.specs.Shape.{Shape, WellFormed, print}
 use Rattle.lexical_read_float_spec.specs.Parse.{shapeOf, WrongAt}
 use Rattle.lexical_read_float_spec.specs.Round.{tooLarge, Nearest}
-use Rattle.lexical_read_float_spec.specs.Read.{grammarOf, magnitude, numerator, denominator, readFloat}
+use Rattle.lexical_read_float_spec.specs.Read.{grammarOf, magnitude, numerator, denominator, readFloat, longestRead, greatestExponent}
 
 -- what is printed is read back as the same shape
 abbrev pub PrintedIsRead : Type 0
@@ -57,11 +57,11 @@ abbrev pub IsNearest : Format → NumberFormat → Options → List ℕ → Answ
 IsNearest f F o t (done x) = NearestToText f F o t x
 IsNearest f F o t (refused n p) = Unit {0}
 
--- and the text of a shape, of at most 4,096 bytes, in a format that passes the reader's checks, with an exponent of at most 32,767 and a value that is not too large, is never refused
+-- and the text of a shape that is not too long, in a format that passes the reader's checks, with an exponent and a value that are not too large, is never refused
 abbrev pub IsServed : Format → NumberFormat → Options → List ℕ → Answer Float → Type 0
 IsServed f F o t answer =
-    (row : Pair) (s : Shape) → readingFormat F o ≡ done row → length t ≤ 4096 → WellFormed (grammarOf F o) s → print (grammarOf F o) s ≡ t
-    → magnitude (F .«exponent_radix») (s .tail) ≤ 32767
+    (row : Pair) (s : Shape) → readingFormat F o ≡ done row → length t ≤ longestRead → WellFormed (grammarOf F o) s → print (grammarOf F o) s ≡ t
+    → magnitude (F .«exponent_radix») (s .tail) ≤ greatestExponent
     → tooLarge f (numerator row (F .«exponent_radix») s) (denominator row (F .«exponent_radix») s) ≡ false
     → answer ≡ done (round f false (numerator row (F .«exponent_radix») s) (denominator row (F .«exponent_radix») s))
 

@@ -12,7 +12,7 @@ use Rattle.lexical_util.specs.Examples.{bytes, sameAnswer, Example}
 use Rattle.lexical_format.specs.declared.format.NumberFormat.{NumberFormat}
 use Rattle.lexical_format.specs.declared.options.Options.{Options}
 use Rattle.lexical_format.specs.declared.options.RoundMode.the-variants.{Round}
-use Rattle.lexical_read_float_spec.specs.Read.{readFloat}
+use Rattle.lexical_read_float_spec.specs.Read.{longestRead, readFloat}
 
 -- r/base/exponent radix, mark "^", all else default
 abbrev pub format : ℕ → ℕ → ℕ → NumberFormat
@@ -88,7 +88,7 @@ read name t wanted = record { name = name; holds = reads binary64 (format 16 2 1
 unfoldable pub long : List Example
 long =
     read "4,000 zeros undone by the exponent" (bytes "0." ++ (replicate 4000 48 ++ bytes "1^16004")) (done one)
-    ∷ read "4,097 bytes" (replicate 4097 48) (refused 12 0)
-    ∷ read "4,096 bytes" (replicate 4096 48) (done 0)
+    ∷ read "a byte too long" (replicate (longestRead + 1) 48) (refused 12 0)
+    ∷ read "the longest that is read" (replicate longestRead 48) (done 0)
     ∷ read "a tie settled behind 4,000 zeros" (bytes "1.00000000000008" ++ (replicate 4000 48 ++ bytes "1")) (done (one + 1))
     ∷ []

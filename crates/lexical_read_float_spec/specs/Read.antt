@@ -46,8 +46,11 @@ unfoldable pub floatOf : Format → ℕ → ℕ → Answer Float
 floatOf f num den = checked ((11, tooLarge f num den) ∷ []) (done (round f false num den))
 
 -- 10 exponent magnitude above 32,767
+abbrev pub greatestExponent : ℕ
+greatestExponent = 32767
+
 unfoldable pub exponentTooLarge : ℕ → Tail → Bool
-exponentTooLarge exponentRadix tail = ltb 32767 (magnitude exponentRadix tail)
+exponentTooLarge exponentRadix tail = ltb greatestExponent (magnitude exponentRadix tail)
 
 -- place its first digit: the exponent's digits are the last of a text
 unfoldable pub exponentPlace : List ℕ → Tail → ℕ
@@ -62,9 +65,13 @@ valueOf f row exponentRadix t s =
       | false ↦ floatOf f (numerator row exponentRadix s) (denominator row exponentRadix s)
     ]
 
--- 12 text above 4,096 bytes; 9 wrong shape
+-- 12 text above 4,096 bytes
+abbrev pub longestRead : ℕ
+longestRead = 4096
+
+-- 12; 9 wrong shape
 unfoldable pub readText : Format → Grammar → List ℕ → Pair → Answer Float
-readText f G t row = checked ((12, ltb 4096 (length t)) ∷ []) (andThen (shapeOf G t) (valueOf f row (G .exponentRadix) t))
+readText f G t row = checked ((12, ltb longestRead (length t)) ∷ []) (andThen (shapeOf G t) (valueOf f row (G .exponentRadix) t))
 
 -- 1, 2, 3
 unfoldable pub readFloat : Format → NumberFormat → Options → List ℕ → Answer Float

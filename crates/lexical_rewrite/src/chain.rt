@@ -10,6 +10,8 @@ ghost use Rattle.lexical_rewrite_spec.specs.Chain.{atStation, chainOf};
 ghost use Rattle.lexical_rewrite_spec.specs.Demand.{NeverLost};
 ghost use Rattle.lexical_rewrite.specs.Answer.{ofRewritten, ofChained};
 ghost use Rattle.lexical_rewrite.specs.Code.{onFrom, sourceAt};
+ghost use Rattle.lexical_write_float_spec.specs.Write.{longestText};
+use crate::record::RECORD_SIZE;
 use crate::record::format_of_record;
 use crate::rewrite::Rewritten;
 use crate::rewrite::rewrite_f32;
@@ -21,6 +23,7 @@ use lexical_read_float::read_f32;
 use lexical_read_float::read_f64;
 use lexical_rewrite_spec::TextFormat;
 use lexical_util::Refusal;
+use lexical_write_float::LONGEST_TEXT;
 
 // The length of the last text; or a refusal of a station's reading or writing, with the station's number, counted from 0.
 pub enum Chained {
@@ -94,10 +97,10 @@ fn source_at(first: TextFormat, further: &[u8], at: usize) -> TextFormat
     requires { ⌜ at ≤ length (now further) ⌝ }
     ensures { λ r. ⌜ r ≡ sourceAt first (now (further .entry)) at ⌝ }
 {
-    if at < 19 {
+    if at < RECORD_SIZE {
         return first;
     }
-    let before = at - 19;
+    let before = at - RECORD_SIZE;
     format_at(further, before)
 }
 
@@ -110,14 +113,14 @@ fn chain_further(
     buffer: &mut [u8],
     width: Width,
 ) -> Chained
-    requires { ⌜ (length (now scratch) ≡ 2275) × (written ≤ 2275) × (0 < length (now further)) ⌝ }
+    requires { ⌜ (length (now scratch) ≡ longestText) × (written ≤ longestText) × (0 < length (now further)) ⌝ }
     ensures { λ r. ⌜ ofChained r ≡ onFrom (ofWidth width) 1 first (take written (now (scratch .entry))) (now (further .entry)) (now (buffer .entry)) .answer ⌝ }
     ensures { λ _. ⌜ now (buffer .exit) ≡ onFrom (ofWidth width) 1 first (take written (now (scratch .entry))) (now (further .entry)) (now (buffer .entry)) .bytes ⌝ }
 {
     let mut count = written;
     let mut station = 1;
     let mut at = 0;
-    while further.len() - at > 19 {
+    while further.len() - at > RECORD_SIZE {
         let source = source_at(first, further, at);
         let target = format_at(further, at);
         match station_within(scratch, count, source, target, width) {
@@ -126,7 +129,7 @@ fn chain_further(
             Rewritten::WritingRefused(refusal) => return Chained::WritingRefused(station, refusal),
         }
         station += 1;
-        at += 19;
+        at += RECORD_SIZE;
     }
     let source = source_at(first, further, at);
     let target = format_at(further, at);
@@ -149,7 +152,7 @@ fn chain(
     if further.len() == 0 {
         return at_station(0, station_into(text, from, first, buffer, width));
     }
-    let mut scratch = [0u8; 2275];
+    let mut scratch = [0u8; LONGEST_TEXT];
     match station_into(text, from, first, &mut scratch, width) {
         Rewritten::Length(written) => chain_further(
             &mut scratch,
@@ -164,7 +167,7 @@ fn chain(
     }
 }
 
-// The text in the format `from`, rewritten in the format `first`, then in that of each record of `further`, 19 bytes each, the last of which may be cut off. On a refusal the bytes lent are as they were.
+// The text in the format `from`, rewritten in the format `first`, then in that of each record of `further`, the last of which may be cut off. On a refusal the bytes lent are as they were.
 pub fn chain_f64(
     text: &[u8],
     from: TextFormat,

@@ -6,6 +6,7 @@ pub mod rewrite;
 pub use chain::Chained;
 pub use chain::chain_f32;
 pub use chain::chain_f64;
+pub use record::RECORD_SIZE;
 pub use record::format_of_record;
 pub use rewrite::Rewritten;
 pub use rewrite::rewrite_f32;

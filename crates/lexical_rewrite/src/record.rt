@@ -1,11 +1,14 @@
-// A format from its record of 19 bytes. Bytes that are missing count as 0.
+// A format from its record. Bytes that are missing count as 0.
 ghost use mathlib.Core.Path.{_≡_};
 ghost use Prim.Native.Nat.{_<_};
-ghost use Rattle.lexical_rewrite_spec.specs.Record.{byteAt, flagAt, modeAt, wordAt, twosComplement, numberFormatOfRecord, optionsOfRecord, formatOfRecord};
+ghost use Rattle.lexical_rewrite_spec.specs.Record.{byteAt, flagAt, modeAt, wordAt, twosComplement, numberFormatOfRecord, optionsOfRecord, formatOfRecord, recordSize};
 use lexical_format::NumberFormat;
 use lexical_format::Options;
 use lexical_format::RoundMode;
 use lexical_rewrite_spec::TextFormat;
+
+// How many bytes a record has.
+pub const RECORD_SIZE: usize = 19;
 
 fn byte_at(bytes: &[u8], at: usize) -> u8
     ensures { λ r. ⌜ r ≡ byteAt (now (bytes .entry)) at ⌝ }
@@ -30,7 +33,7 @@ fn mode_at(bytes: &[u8], at: usize) -> RoundMode
 }
 
 fn word_at(bytes: &[u8], at: usize) -> u32
-    requires { ⌜ at < 19 ⌝ }
+    requires { ⌜ at < recordSize ⌝ }
     ensures { λ r. ⌜ r ≡ wordAt (now (bytes .entry)) at ⌝ }
     ensures small { λ r. ⌜ r < 65536 ⌝ }
 {
@@ -40,7 +43,7 @@ fn word_at(bytes: &[u8], at: usize) -> u32
 }
 
 fn signed_at(bytes: &[u8], at: usize) -> i32
-    requires { ⌜ at < 19 ⌝ }
+    requires { ⌜ at < recordSize ⌝ }
     ensures { λ r. ⌜ r ≡ twosComplement (wordAt (now (bytes .entry)) at) ⌝ }
 {
     let word = word_at(bytes, at);

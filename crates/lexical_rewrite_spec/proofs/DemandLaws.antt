@@ -12,6 +12,7 @@ use Rattle.lexical_rewrite_spec.specs.Rewrite.{Rewriting, readIn, textIn
 use Rattle.lexical_rewrite_spec.specs.Chain.{Chained, atStation, lastStation, chain, ownBuffer, stationOf, stationsOf, chainOf, lastFormat}
 use Rattle.lexical_rewrite_spec.specs.Demand.{Admits, Roomy, SameAsOthers, SameFloatSameBytes, Arrives, Ready, ChainArrives, NeverLost}
 use Rattle.lexical_rewrite_spec.proofs.StationLaws.{Has, has-text, station-answer, station-bytes, station-hands}
+use Rattle.lexical_write_float_spec.specs.Write.{longestText}
 
 -- ---- same float, same bytes
 -- a float has one text, and a text one float
@@ -60,7 +61,7 @@ chain-arrives f i F t S (S' ∷ Ss) x read ready all =
 
 -- ---- a call that is lent the last station's buffer
 own-roomy : Roomy ownBuffer
-own-roomy = omega (arith, length-replicate {A = ℕ} 2275 0)
+own-roomy = omega (arith, length-replicate {A = ℕ} longestText 0)
 
 module _ (out : List ℕ) where
   pub last-buffer : (G : TextFormat) (Gs : List TextFormat) → lastStation (stationOf G Gs out) (stationsOf Gs out) .buffer ≡ out

@@ -1,4 +1,4 @@
--- Records of 19 bytes, one behind the other: none where no byte is left, else the one in front and those behind it. And the way back: the record of a format is read as that format, and every format that the writer admits has one. Assumes nothing.
+-- Records, one behind the other: none where no byte is left, else the one in front and those behind it. And the way back: the record of a format is read as that format, and every format that the writer admits has one. Assumes nothing.
 use Prim.Native.Nat.{ℕ, zero, suc, _+_, _-_, _*_, _/_, _%_, _^_, _≤_, _<_}
 use mathlib.Core.Path.{_≡_, refl, _∙_}
 use mathlib.Core.Bool.{Bool, true, false, cond, not}
@@ -15,22 +15,22 @@ use Rattle.lexical_format.specs.declared.options.RoundMode.the-variants.{Round,
 use Rattle.lexical_format.specs.Format.{orAbsent, lowBreak, outside, badBreaks}
 use Rattle.lexical_format.proofs.FormatLaws.{neither, writable}
 use Rattle.lexical_rewrite_spec.specs.declared.text_format.TextFormat.{TextFormat}
-use Rattle.lexical_rewrite_spec.specs.Record.{twosComplement, numberFormatOfRecord, optionsOfRecord, formatOfRecord, recordsOf, formatsOf, flagByte, modeByte, wordOf, recordOf, joined, FitsWord}
+use Rattle.lexical_rewrite_spec.specs.Record.{twosComplement, numberFormatOfRecord, optionsOfRecord, formatOfRecord, recordsOf, formatsOf, flagByte, modeByte, wordOf, recordOf, joined, FitsWord, recordSize}
 use Rattle.lexical_rewrite_spec.specs.Demand.{RecordIsBytes, RecordIsReadBack, RecordsAreReadBack, AdmittedFits}
 
-count-none : (n : ℕ) → n ≡ 0 → (n + 18) / 19 ≡ 0
+count-none : (n : ℕ) → n ≡ 0 → (n + (recordSize - 1)) / recordSize ≡ 0
 count-none n h = omega arith
 
-count-more : (n : ℕ) → 0 < n → (n + 18) / 19 ≡ suc (((n - 19) + 18) / 19)
+count-more : (n : ℕ) → 0 < n → (n + (recordSize - 1)) / recordSize ≡ suc (((n - recordSize) + (recordSize - 1)) / recordSize)
 count-more n h = omega arith
 
 pub no-records : (bytes : List ℕ) → length bytes ≡ 0 → formatsOf bytes ≡ []
 unfolding formatsOf recordsOf
 no-records bytes h = rw (count-none (length bytes) h)
 
-pub more-records : (bytes : List ℕ) → 0 < length bytes → formatsOf bytes ≡ formatOfRecord bytes ∷ formatsOf (drop 19 bytes)
+pub more-records : (bytes : List ℕ) → 0 < length bytes → formatsOf bytes ≡ formatOfRecord bytes ∷ formatsOf (drop recordSize bytes)
 unfolding formatsOf recordsOf
-more-records bytes h = rw (count-more (length bytes) h, length-drop 19 bytes)
+more-records bytes h = rw (count-more (length bytes) h, length-drop recordSize bytes)
 
 -- ---- the record of a format, and back
 flag-back : (on : Bool) → not (eqb (flagByte on) 0) ≡ on
@@ -110,7 +110,7 @@ record-length : (G : TextFormat) (rest : List ℕ) → 0 < length (recordOf G ++
 unfolding recordOf
 record-length G rest = omega arith
 
-behind-record : (G : TextFormat) (rest : List ℕ) → drop 19 (recordOf G ++ rest) ≡ rest
+behind-record : (G : TextFormat) (rest : List ℕ) → drop recordSize (recordOf G ++ rest) ≡ rest
 unfolding recordOf
 behind-record G rest = refl
 

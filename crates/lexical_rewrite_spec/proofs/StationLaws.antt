@@ -19,7 +19,7 @@ use Rattle.lexical_format.specs.declared.format.Pair.{Pair}
 use Rattle.lexical_format.specs.declared.format.NumberFormat.{NumberFormat}
 use Rattle.lexical_format.specs.declared.options.Options.{Options}
 use Rattle.lexical_format.specs.Format.{writingFormat}
-use Rattle.lexical_write_float_spec.specs.Write.{limitedText, floatText, writeText}
+use Rattle.lexical_write_float_spec.specs.Write.{limitedText, floatText, writeText, longestText}
 use Rattle.lexical_write_float_spec.proofs.WriteLaws.{longest-text}
 use Rattle.lexical_read_float_spec.proofs.ReadLaws.{read-is-nearest}
 use Rattle.lexical_rewrite_spec.specs.declared.text_format.TextFormat.{TextFormat}
@@ -32,7 +32,7 @@ use Rattle.lexical_rewrite_spec.proofs.WrittenLaws.{written-is-exact, w
 pub record Has (f : Format) (G : TextFormat) (x : Float) : Type 0 where
   pub text : List ℕ
   pub is-text : textIn G x ≡ done text
-  pub short : length text ≤ 2275
+  pub short : length text ≤ longestText
   pub back : readIn f G text ≡ done x
   pub exact : Denotes (G .format) (G .options) text x
 

@@ -26,13 +26,13 @@ use Rattle.lexical_write_float_spec.specs.declared.layout.Layout.the-variants.{
 use Rattle.lexical_write_float_spec.specs.Limit.{limited}
 use Rattle.lexical_write_float_spec.specs.Text.{least, trim, layoutOf, digitsSoFar, text}
 use Rattle.lexical_write_float_spec.specs.Value.{exactDigits}
-use Rattle.lexical_write_float_spec.specs.Write.{limitedText, floatText, writeText}
+use Rattle.lexical_write_float_spec.specs.Write.{limitedText, floatText, writeText, longestText}
 use Rattle.lexical_write_float_spec.specs.Range.{Ranged}
 use Rattle.lexical_write_float_spec.proofs.RangeLaws.{fits-ranged, place-near}
 use Rattle.lexical_write_float_spec.proofs.WriteLaws.{longest-text}
 use Rattle.lexical_read_float_spec.specs.Shape.{Tail, absent, Shape}
 use Rattle.lexical_read_float_spec.specs.Parse.{withTail, shapeOf}
-use Rattle.lexical_read_float_spec.specs.Read.{grammarOf, magnitude, numerator, denominator, floatOf, exponentTooLarge, exponentPlace, valueOf, readText, readFloat}
+use Rattle.lexical_read_float_spec.specs.Read.{grammarOf, magnitude, numerator, denominator, floatOf, exponentTooLarge, exponentPlace, valueOf, readText, readFloat, longestRead, greatestExponent}
 use Rattle.lexical_read_float_spec.proofs.Largest.{not-too-large}
 use Rattle.lexical_read_float_spec.proofs.ReadLaws.{printed-is-read, denominator-pos}
 use Rattle.lexical_float.proofs.FloatLaws.{round-of-value}
@@ -89,7 +89,7 @@ written-is-exact F o x t none e = by-float F o (λ l y. Denotes F o l y) step x 
 -- ---- the exponent is never too large
 module _ (F : NumberFormat) (o : Options) (row : Pair) (R : Readable F o row) where
   abbrev small : Tail → Type 0
-  small τ = magnitude (F .«exponent_radix») τ ≤ 32767
+  small τ = magnitude (F .«exponent_radix») τ ≤ greatestExponent
 
   small-tail : (p : ℤ) → natAbs p ≤ 1074 → small (tailOf F o row p)
   small-tail p h =
@@ -116,7 +116,7 @@ module _ (F : NumberFormat) (o : Options) (row : Pair) (R : Readable F o row) wh
   text-small : (m : ℕ) (e : ℤ) → Ranged m e → exponentTooLarge (F .«exponent_radix») (shapeOfText F o row m e .tail) ≡ false
   unfolding exponentTooLarge shapeOfText
   text-small m e r =
-      le-ltb 32767 (magnitude (F .«exponent_radix») (shapeOfText F o row m e .tail))
+      le-ltb greatestExponent (magnitude (F .«exponent_radix») (shapeOfText F o row m e .tail))
       (tail-in (digitsIn F o row m e) (place (row .b) (scale m e)) (digitsSoFar F o m (exactDigits (row .b) m e)) (layoutOf F o (scale m e)) (place-near (row .b) (scale m e) (r .near)))
 
 -- ---- read back
@@ -132,15 +132,15 @@ value-done f row E t s x small h v = go (exponentTooLarge E (s .tail)) small
     go true e = absurd (let z : _≡_ {A = ℕ} 0 1 = cc in omega arith)
     go false e = float-done f x (numerator row E s) (denominator row E s) (denominator-pos row E s) h v
 
-text-read : (f : Format) (F : NumberFormat) (o : Options) (row : Pair) → writingFormat F o ≡ done row → (m : ℕ) (e : ℤ) → T (fits f (fin false m e)) → length (text F o row m e) ≤ 2275 → readFloat f F o (text F o row m e) ≡ done (fin false m e)
+text-read : (f : Format) (F : NumberFormat) (o : Options) (row : Pair) → writingFormat F o ≡ done row → (m : ℕ) (e : ℤ) → T (fits f (fin false m e)) → length (text F o row m e) ≤ longestText → readFloat f F o (text F o row m e) ≡ done (fin false m e)
 unfolding readFloat readText
 text-read f F o row w m e h l =
     let R = readable F o row (reads F o row w m e) in
-    rw (reads F o row w m e, le-ltb 4096 (length (text F o row m e)) (omega arith), text-found F o row w m e)
+    rw (reads F o row w m e, le-ltb longestRead (length (text F o row m e)) (omega arith), text-found F o row w m e)
     (value-done f row (F .«exponent_radix») (text F o row m e) (shapeOfText F o row m e) (fin false m e) (text-small F o row R m e (fits-ranged f m e h)) h (refl, text-value F o row R m e))
 
 pub written-is-read-back : WrittenIsReadBack
-written-is-read-back f F o x t h none e = by-float F o (λ l y. T (fits f y) → length l ≤ 2275 → readFloat f F o l ≡ done y) step x t e h (longest-text f F o x t h e)
+written-is-read-back f F o x t h none e = by-float F o (λ l y. T (fits f y) → length l ≤ longestText → readFloat f F o l ≡ done y) step x t e h (longest-text f F o x t h e)
   where
-    step : (row : Pair) → writingFormat F o ≡ done row → (m : ℕ) (e : ℤ) → T (fits f (fin false m e)) → length (limitedText F o row m e) ≤ 2275 → readFloat f F o (limitedText F o row m e) ≡ done (fin false m e)
+    step : (row : Pair) → writingFormat F o ≡ done row → (m : ℕ) (e : ℤ) → T (fits f (fin false m e)) → length (limitedText F o row m e) ≤ longestText → readFloat f F o (limitedText F o row m e) ≡ done (fin false m e)
     step row w m e h l = rw (unlimited F o row m e none) (text-read f F o row w m e h (rw (unlimited F o row m e none) at l))

@@ -5,6 +5,7 @@ use lib.ListN.{take, replicate}
 use lib.Ieee.{Format}
 use Rattle.lexical_rewrite_spec.specs.declared.text_format.TextFormat.{TextFormat}
 use Rattle.lexical_rewrite_spec.specs.Rewrite.{Rewriting, rewritten, readingRefused, writingRefused, readIn, rewriteAnswer, rewriteBytes}
+use Rattle.lexical_write_float_spec.specs.Write.{longestText}
 
 -- a station: its format, and what its buffer holds before it writes
 pub record Station : Type 0 where
@@ -49,7 +50,7 @@ chain f i F t S (S' ∷ Ss) =
 
 -- ---- the stations of a call that is lent the last one's buffer: each before it has a buffer of its own, of 2,275 bytes
 abbrev pub ownBuffer : List ℕ
-ownBuffer = replicate 2275 0
+ownBuffer = replicate longestText 0
 
 abbrev pub stationOf : TextFormat → List TextFormat → List ℕ → Station
 stationOf G [] out = record { format = G; buffer = out }

@@ -14,6 +14,7 @@ use Rattle.lexical_rewrite_spec.specs.Claims.{Denotes}
 use Rattle.lexical_rewrite_spec.specs.Rewrite.{Rewriting, rewritten, readIn, textIn, rewriteAnswer, rewriteBytes}
 use Rattle.lexical_rewrite_spec.specs.Chain.{Station, Chained, arrived, lastStation, chain, lastFormat}
 use Rattle.lexical_rewrite_spec.specs.Record.{formatOfRecord, formatsOf, recordOf, joined, FitsRecord}
+use Rattle.lexical_write_float_spec.specs.Write.{longestText}
 
 -- the reader accepts t under F, and its float is x: none of the reader's checks refuses it, and x is what its rounding rule picks
 abbrev pub IsFloatOf : Format → TextFormat → List ℕ → Float → Type 0
@@ -27,7 +28,7 @@ pub record Admits (G : TextFormat) : Type 0 where
 
 -- a buffer long enough for every text
 abbrev pub Roomy : List ℕ → Type 0
-Roomy out = 2275 ≤ length out
+Roomy out = longestText ≤ length out
 
 -- ---- same float, same bytes
 -- two rewritings answered and left these bytes: both succeed, and lengths and bytes are equal exactly where the floats are

@@ -1,5 +1,5 @@
 -- Chains worked out by hand, as one list against the definition that the contracts cite; and records. Definitions only.
-use Prim.Native.Nat.{ℕ}
+use Prim.Native.Nat.{ℕ, _-_}
 use Prim.Native.String.{String}
 use mathlib.Core.Bool.{Bool, true, false, _&&_}
 use mathlib.Core.List.{List, [], _∷_, _++_}
@@ -12,7 +12,7 @@ use Rattle.lexical_format.specs.declared.options.RoundMode.the-variants.{Trunca
 use Rattle.lexical_read_float_spec.specs.Examples.{format, options}
 use Rattle.lexical_rewrite_spec.specs.declared.text_format.TextFormat.{TextFormat}
 use Rattle.lexical_rewrite_spec.specs.Chain.{Chained, arrived, readingRefusedAt, writingRefusedAt, Outcome, chainOf}
-use Rattle.lexical_rewrite_spec.specs.Record.{formatsOf, recordOf}
+use Rattle.lexical_rewrite_spec.specs.Record.{recordSize, formatsOf, recordOf}
 
 -- exponent radix 10, point ".", all else default
 abbrev inPair : ℕ → ℕ → ℕ → TextFormat
@@ -52,7 +52,7 @@ chains =
     ∷ sent "just enough bytes" binary64 "1.8p0" record2 3 (arrived 3) (bytes "1.1")
     ∷ sent "a byte too few" binary64 "1.8p0" record2 2 (writingRefusedAt 1 8 0) (lent 2)
     ∷ sent "a byte that no text has there" binary64 "1.8q0" record2 8 (readingRefusedAt 0 9 3) (lent 8)
-    ∷ sent "a record cut off before its mark" binary64 "1.8p0" (take 18 record2) 8 (writingRefusedAt 1 3 0) (lent 8)
+    ∷ sent "a record cut off before its mark" binary64 "1.8p0" (take (recordSize - 1) record2) 8 (writingRefusedAt 1 3 0) (lent 8)
     ∷ sent "2 ^ -24 above 1, kept in 64 bits" binary64 "1.000001p0" record2 30 (arrived 26) (bytes "1.000000000000000000000001" ++ lent 4)
     ∷ sent "and a tie in 32 bits, to the even float" binary32 "1.000001p0" record2 30 (arrived 3) (bytes "1.0" ++ lent 27)
     ∷ []

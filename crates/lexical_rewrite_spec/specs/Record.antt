@@ -1,4 +1,4 @@
--- A format as a record of 19 bytes, in which a chain is given its stations. Document 01 has no such form; docs/DECISIONS.md says why it is this one. Definitions only.
+-- A format as a record of bytes, in which a chain is given its stations. Document 01 has no such form; docs/DECISIONS.md says why it is this one. Definitions only.
 use Prim.Native.Nat.{ℕ, zero, suc, _+_, _-_, _*_, _/_, _%_, _<_}
 use mathlib.Core.Bool.{Bool, cond, not}
 use mathlib.Core.List.{List, [], _∷_, _++_}
@@ -10,6 +10,10 @@ use Rattle.lexical_format.specs.declared.options.Options.{Options}
 use Rattle.lexical_format.specs.declared.options.RoundMode.{RoundMode}
 use Rattle.lexical_format.specs.declared.options.RoundMode.the-variants.{Round, Truncate}
 use Rattle.lexical_rewrite_spec.specs.declared.text_format.TextFormat.{TextFormat}
+
+-- how many bytes a record has
+abbrev pub recordSize : ℕ
+recordSize = 19
 
 -- bytes that are missing count as 0: a record that is cut off has no mark, and is refused
 abbrev pub byteAt : List ℕ → ℕ → ℕ
@@ -61,11 +65,11 @@ formatOfRecord bytes = record { format = numberFormatOfRecord bytes; options = o
 -- n records, one behind the other
 unfoldable pub recordsOf : ℕ → List ℕ → List TextFormat
 recordsOf zero bytes = []
-recordsOf (suc n) bytes = formatOfRecord bytes ∷ recordsOf n (drop 19 bytes)
+recordsOf (suc n) bytes = formatOfRecord bytes ∷ recordsOf n (drop recordSize bytes)
 
 -- all of them, the last one perhaps cut off
 unfoldable pub formatsOf : List ℕ → List TextFormat
-formatsOf bytes = recordsOf ((length bytes + 18) / 19) bytes
+formatsOf bytes = recordsOf ((length bytes + (recordSize - 1)) / recordSize) bytes
 
 -- ---- the record of a format
 -- 1 is on

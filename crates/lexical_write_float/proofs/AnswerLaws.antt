@@ -28,7 +28,7 @@ use Rattle.lexical_write_float_spec.specs.declared.layout.Layout.{Layout}
 use Rattle.lexical_write_float_spec.specs.declared.layout.Layout.the-variants as layouts
 use Rattle.lexical_write_float_spec.specs.Value.{Value, exactDigits}
 use Rattle.lexical_write_float_spec.specs.Text.{layoutOf, digitsSoFar, laidOut, text, exponentText}
-use Rattle.lexical_write_float_spec.specs.Write.{limitedText, floatText, writeText, NoLonger, NeverRefused}
+use Rattle.lexical_write_float_spec.specs.Write.{limitedText, floatText, writeText, NoLonger, NeverRefused, longestText}
 use Rattle.lexical_write_float_spec.specs.Range.{Between}
 use Rattle.lexical_write_float.specs.Code.{Passed, checkedRow, OfFloat, partsText, askedByParts}
 use Rattle.lexical_write_float.proofs.FloatLaws.{float-normal}
@@ -107,7 +107,7 @@ module _ (F : NumberFormat) (o : Options) (x : Float) (out : List ℕ) (a : Answ
   no-longer : (f : Format) → T (fits f x) → NoLonger a
   no-longer f t = subst NoLonger (sym e) (go (writeText F o x) refl)
     where
-      fit : (n : ℕ) (b : Bool) → n ≤ 2275 → NoLonger (cond b (done n) (refused 8 0))
+      fit : (n : ℕ) (b : Bool) → n ≤ longestText → NoLonger (cond b (done n) (refused 8 0))
       fit n true h = h
       fit n false h = tt
 

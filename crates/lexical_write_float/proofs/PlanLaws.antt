@@ -18,6 +18,7 @@ use Rattle.lexical_format.specs.declared.options.Options.{Options}
 use Rattle.lexical_write_float_spec.specs.Text.{point, least, trim, scientific, negative, positive}
 use Rattle.lexical_write_float.specs.Code.{signText, fractionText, planText, tailText, IsPlan}
 use Rattle.lexical_write_float.proofs.PowerLaws.{tail-length}
+use Rattle.lexical_format.specs.Format.{mostCount}
 
 module _ (point : ℕ) (P : Plan) (D : List ℕ) where
   pub fraction-length : P .point ≡ true → length (fractionText point P D) ≡ 1 + P .gap + (length D - P .leading) + P .padding
@@ -65,7 +66,7 @@ drop-whole n D e = rw (← e) (drop-length D)
 abbrev pub plan : ℕ → ℕ → Bool → ℕ → ℕ → Plan
 plan leading filled point gap padding = record { leading = leading; filled = filled; point = point; gap = gap; padding = padding }
 
-module _ (F : NumberFormat) (o : Options) (few : least F o ≤ 1200) (count : ℕ) where
+module _ (F : NumberFormat) (o : Options) (few : least F o ≤ mostCount) (count : ℕ) where
   -- D longer than one digit
   pub scientific-more : 1 < count → IsPlan (point F o) count (scientific F o) (plan 1 0 true 0 (least F o - count))
   unfolding scientific planText fractionText
@@ -101,7 +102,7 @@ module _ (F : NumberFormat) (o : Options) (few : least F o ≤ 1200) (count : �
         small = record { leading-few = omega arith; filled-few = omega arith; gap-few = omega arith; padding-few = omega arith };
       }
 
-  module _ (places soFar : ℕ) (near : places ≤ 1200) where
+  module _ (places soFar : ℕ) (near : places ≤ 1075) where
     -- D longer than the places
     pub positive-more : places < count → IsPlan (point F o) count (λ (D : List ℕ). positive F o D places soFar) (plan places 0 true 0 (least F o - count))
     unfolding positive planText fractionText

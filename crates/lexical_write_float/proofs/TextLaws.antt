@@ -13,7 +13,7 @@ use Rattle.lexical_write_integer_spec.proofs.DigitsLaws.{length-numeral, count-
 use Rattle.lexical_format.specs.declared.checks.CheckedFormat.{CheckedFormat}
 use Rattle.lexical_format.specs.declared.format.NumberFormat.{NumberFormat}
 use Rattle.lexical_format.specs.declared.options.Options.{Options}
-use Rattle.lexical_format.specs.Format.{lowBreak, highBreak, settled}
+use Rattle.lexical_format.specs.Format.{lowBreak, highBreak, settled, mostCount}
 use Rattle.lexical_format.proofs.FormatLaws.{writable}
 use Rattle.lexical_write_float_spec.specs.declared.layout.Layout.{Layout}
 use Rattle.lexical_write_float_spec.specs.declared.layout.Layout.the-variants.{Scientific, Negative, Positive}
@@ -28,8 +28,8 @@ pub record Known (F : NumberFormat) (o : Options) (c : CheckedFormat) : Type 0 w
   pub some-bits : 0 < c .b
   pub few-bits : c .b ≤ 5
   pub power-radix : isRadix (F .«exponent_radix») ≡ true
-  pub few-least : least F o ≤ 1200
-  pub few-most : o .«max_significant_digits» ≤ 1200
+  pub few-least : least F o ≤ mostCount
+  pub few-most : o .«max_significant_digits» ≤ mostCount
   pub low : c .«negative_exponent_break» .0 ≡ lowBreak o
   pub high : c .«positive_exponent_break» .0 ≡ highBreak o
 

@@ -10,6 +10,7 @@ ghost use mathlib.Core.List.{List};
 ghost use lib.IntN.{natAbs};
 ghost use Rattle.lexical_format.specs.declared.format.NumberFormat.{NumberFormat};
 ghost use Rattle.lexical_write_float_spec.specs.Text.{point, negative, positive};
+ghost use Rattle.lexical_format.specs.Format.{mostCount};
 use crate::plan::Plan;
 use crate::shared::missing_digits;
 use lexical_exponent::BitExponent;
@@ -71,7 +72,7 @@ fn round_to_units(mantissa: u64, cut: u32, mode: RoundMode) -> u64
 
 // Of the bits below the leading one, how many stand in the first `digits` digits: the first digit has s mod b of them.
 fn kept_bits(s: BitExponent, bits_per_digit: u32, digits: u32) -> u32
-    requires { ⌜ (0 < «bits_per_digit») × («bits_per_digit» ≤ 5) × (0 < digits) × (digits ≤ 1200) ⌝ }
+    requires { ⌜ (0 < «bits_per_digit») × («bits_per_digit» ≤ 5) × (0 < digits) × (digits ≤ mostCount) ⌝ }
     ensures { λ r. ⌜ r ≡ «bits_per_digit» * (digits - 1) + modulo (s .0) «bits_per_digit» ⌝ }
 {
     let first = calculate_shl(s, bits_per_digit);
@@ -87,7 +88,7 @@ pub(crate) fn truncate_and_round(
     digits: u32,
     mode: RoundMode,
 ) -> Magnitude
-    requires { ⌜ (value .mantissa < 2 ^ 60) × Between 4000 4000 (value .exponent .0) × (0 < «bits_per_digit») × («bits_per_digit» ≤ 5) × (digits ≤ 1200) ⌝ }
+    requires { ⌜ (value .mantissa < 2 ^ 60) × Between 4000 4000 (value .exponent .0) × (0 < «bits_per_digit») × («bits_per_digit» ≤ 5) × (digits ≤ mostCount) ⌝ }
     ensures { λ r. ⌜ ofMagnitude r ≡ limited mode «bits_per_digit» digits (value .mantissa) (value .exponent .0) ⌝ }
 {
     let mantissa = value.mantissa;
@@ -118,7 +119,7 @@ pub(crate) fn write_float_negative_exponent(
     p: DigitExponent,
     options: Options,
 ) -> Plan
-    requires { ⌜ (natAbs (p .0) ≤ 1074) × (options .«min_significant_digits» ≤ 1200) ⌝ }
+    requires { ⌜ (natAbs (p .0) ≤ 1074) × (options .«min_significant_digits» ≤ mostCount) ⌝ }
     ensures { λ r. ⌜ ((F : NumberFormat) → IsPlan (point F options) count (λ (D : List ℕ). negative F options D (p .0)) r) ⌝ }
 {
     Plan {
@@ -137,7 +138,7 @@ pub(crate) fn write_float_positive_exponent(
     digits_so_far: usize,
     options: Options,
 ) -> Plan
-    requires { ⌜ (places ≤ 1200) × (options .«min_significant_digits» ≤ 1200) ⌝ }
+    requires { ⌜ (places ≤ 1075) × (options .«min_significant_digits» ≤ mostCount) ⌝ }
     ensures { λ r. ⌜ ((F : NumberFormat) → IsPlan (point F options) count (λ (D : List ℕ). positive F options D places «digits_so_far») r) ⌝ }
 {
     let least = options.min_significant_digits;

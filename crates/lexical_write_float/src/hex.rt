@@ -4,6 +4,7 @@ ghost use mathlib.Core.Bool.{not, _&&_};
 ghost use Prim.Native.Nat.{_≤_, _<_};
 ghost use Rattle.lexical_write_float_spec.specs.Text.{point, least, trim, scientific};
 ghost use Rattle.lexical_write_float.specs.Code.{IsPlan};
+ghost use Rattle.lexical_format.specs.Format.{mostCount};
 use crate::plan::Plan;
 use crate::shared::missing_digits;
 use lexical_format::NumberFormat;
@@ -18,7 +19,7 @@ fn stands_alone(format: NumberFormat, options: Options) -> bool
 
 // First digit, point, the rest, zeros up to the least count. A digit alone has ".0" behind it, unless it is trimmed.
 pub(crate) fn write_float_scientific(count: usize, format: NumberFormat, options: Options) -> Plan
-    requires { ⌜ (0 < count) × (least format options ≤ 1200) ⌝ }
+    requires { ⌜ (0 < count) × (least format options ≤ mostCount) ⌝ }
     ensures { λ r. ⌜ IsPlan (point format options) count (scientific format options) r ⌝ }
 {
     let padding = missing_digits(options.min_significant_digits, count);

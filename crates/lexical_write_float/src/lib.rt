@@ -6,5 +6,6 @@ mod plan;
 mod shared;
 mod write;
 
+pub use write::LONGEST_TEXT;
 pub use write::write_f32;
 pub use write::write_f64;

@@ -12,6 +12,7 @@ ghost use Rattle.lexical_write_float_spec.specs.Text.{point, least, digitsSoFar
 ghost use Rattle.lexical_write_float_spec.specs.Range.{Ranged};
 ghost use Rattle.lexical_write_float.specs.Code.{FloatParts, Passed, checkedRow, Counted, digitsOf, IsPlaced, IsPlan, bodyText, magnitudeText, partsText, askedByParts, OfFloat};
 ghost use Rattle.lexical_write_float_spec.specs.Write.{writeText, NoLonger, NeverRefused};
+ghost use Rattle.lexical_format.specs.Format.{mostCount};
 use crate::binary::normalized;
 use crate::binary::truncate_and_round;
 use crate::binary::write_float_negative_exponent;
@@ -39,6 +40,9 @@ use lexical_format::WritingCheck;
 use lexical_util::Refusal;
 use lexical_util::Written;
 use lexical_write_float_spec::Layout;
+
+// No text is longer: document 01, "Layout". A buffer of so many bytes serves every float, format and option.
+pub const LONGEST_TEXT: usize = 2275;
 
 // D of a value: the mantissa is shifted up by e mod b, and what is left of e is a whole number of digits.
 fn digits_of(value: Magnitude, bits_per_digit: u32) -> Digits
@@ -101,7 +105,7 @@ fn plan_of(
     format: NumberFormat,
     options: Options,
 ) -> Plan
-    requires { ⌜ (0 < count) × (natAbs (p .0) ≤ 1074) × (least format options ≤ 1200) ⌝ }
+    requires { ⌜ (0 < count) × (natAbs (p .0) ≤ 1074) × (least format options ≤ mostCount) ⌝ }
     ensures { λ r. ⌜ IsPlan (point format options) count (bodyText format options (p .0) «so_far» layout) r ⌝ }
 {
     match layout {

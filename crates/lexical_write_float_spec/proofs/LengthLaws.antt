@@ -24,6 +24,8 @@ use Rattle.lexical_write_float_spec.specs.Range.{Between, Ranged}
 use Rattle.lexical_write_float_spec.specs.Text.{zeros, point, least, trim, isScientific, layoutOf, scientific, exponentSign, exponentText, negative, positive, laidOut, digitsSoFar, text}
 use Rattle.lexical_write_float_spec.proofs.ValueLaws.{exact-few}
 use Rattle.lexical_write_float_spec.proofs.RangeLaws.{place-near}
+use Rattle.lexical_write_float_spec.specs.Write.{longestText}
+use Rattle.lexical_format.specs.Format.{mostCount}
 
 -- a magnitude below 2 ^ 13 has at most 13 digits in any radix
 pub few-digits : (radix n : ℕ) → isRadix radix ≡ true → n < 8192 → length (numeral radix n) ≤ 13
@@ -44,7 +46,7 @@ module _ (F : NumberFormat) (o : Options) (row : Pair) (W : Writable F o row) wh
     unfolding scientific
     scientific-length = simp (length-append, length-take) (go (ltb 1 (length D)) (trim F o && not (F .«no_exponent_without_fraction»)))
       where
-        l : least F o ≤ 1200
+        l : least F o ≤ mostCount
         l = W .least
 
         go : (a b : Bool) → min 1 (length D) + length (cond a (point F o ∷ (drop 1 D ++ zeros (least F o - length D))) (cond b [] (point F o ∷ zeros (max 1 (least F o - 1))))) ≤ 1300
@@ -52,18 +54,18 @@ module _ (F : NumberFormat) (o : Options) (row : Pair) (W : Writable F o row) wh
         go false true = omega arith
         go false false = simp length-replicate (omega (arith, l))
 
-    negative-length : (p : ℤ) → natAbs p ≤ 1074 → length (negative F o D p) ≤ 2275
+    negative-length : (p : ℤ) → natAbs p ≤ 1074 → length (negative F o D p) ≤ longestText
     unfolding negative
     negative-length p h = let l = W .least in simp (length-append, length-replicate) (omega arith)
 
-    positive-length : (places soFar : ℕ) → places ≤ 1025 → length (positive F o D places soFar) ≤ 2275
+    positive-length : (places soFar : ℕ) → places ≤ 1025 → length (positive F o D places soFar) ≤ longestText
     unfolding positive
     positive-length places soFar h = go (ltb places (length D)) (trim F o)
       where
-        l : least F o ≤ 1200
+        l : least F o ≤ mostCount
         l = W .least
 
-        go : (a b : Bool) → length (cond a (take places D ++ (point F o ∷ (drop places D ++ zeros (least F o - length D)))) (D ++ (zeros (places - length D) ++ cond b [] (point F o ∷ (48 ∷ zeros (least F o - soFar)))))) ≤ 2275
+        go : (a b : Bool) → length (cond a (take places D ++ (point F o ∷ (drop places D ++ zeros (least F o - length D)))) (D ++ (zeros (places - length D) ++ cond b [] (point F o ∷ (48 ∷ zeros (least F o - soFar)))))) ≤ longestText
         go true b = simp (length-append, length-take, length-drop, length-replicate) (omega (arith, l, few, h))
         go false true = simp (length-append, length-replicate) (omega (arith, few, h))
         go false false = simp (length-append, length-replicate) (omega (arith, l, few, h))
@@ -84,15 +86,15 @@ module _ (F : NumberFormat) (o : Options) (row : Pair) (W : Writable F o row) wh
       simp length-append (omega (arith, sign-length p, few-digits (F .«exponent_radix») (power (row .b) (row .c) p) (R .power) (power-few (row .b) (row .c) p (R .pair .few-bits) h)))
 
   -- ---- the whole text
-  laid-length : (D : List ℕ) (soFar : ℕ) (s : ℤ) → length D ≤ 64 → Between 1074 1024 s → length (laidOut F o row D (place (row .b) s) soFar (layoutOf F o s)) ≤ 2275
+  laid-length : (D : List ℕ) (soFar : ℕ) (s : ℤ) → length D ≤ 64 → Between 1074 1024 s → length (laidOut F o row D (place (row .b) s) soFar (layoutOf F o s)) ≤ longestText
   unfolding layoutOf
   laid-length D soFar s few h = go (isScientific F o s) s h
     where
-      go : (b : Bool) (s : ℤ) → Between 1074 1024 s → length (laidOut F o row D (place (row .b) s) soFar (cond b Scientific (cond (ltZ s (pos 0)) Negative Positive))) ≤ 2275
+      go : (b : Bool) (s : ℤ) → Between 1074 1024 s → length (laidOut F o row D (place (row .b) s) soFar (cond b Scientific (cond (ltZ s (pos 0)) Negative Positive))) ≤ longestText
       go true s h = simp length-append (omega (arith, scientific-length D few, exponent-length (place (row .b) s) (place-near (row .b) s h)))
       go false (pos n) h = rw (leb·suc-zero n) (positive-length D few (n / row .b + 1) soFar (omega (arith, div-le-self n (row .b))))
       go false (negsuc n) h = negative-length D few (negsuc (n / row .b)) (omega (arith, div-le-self n (row .b)))
 
-  pub text-length : (m : ℕ) (e : ℤ) → Ranged m e → length (text F o row m e) ≤ 2275
+  pub text-length : (m : ℕ) (e : ℤ) → Ranged m e → length (text F o row m e) ≤ longestText
   unfolding text
   text-length m e r = laid-length (exactDigits (row .b) m e) (digitsSoFar F o m (exactDigits (row .b) m e)) (scale m e) (exact-few (row .b) m e (W .reads .pair .some-bits) (W .reads .pair .few-bits) (r .few)) (r .near)

@@ -21,7 +21,7 @@ use Rattle.lexical_format.specs.Format.{writingFormat}
 use Rattle.lexical_format.proofs.FormatLaws.{power-whole, Writable, writable}
 use Rattle.lexical_exponent.specs.Exponent.{modulo}
 use Rattle.lexical_write_float_spec.specs.Value.{exactDigits}
-use Rattle.lexical_write_float_spec.specs.Write.{limitedText, floatText, writeText}
+use Rattle.lexical_write_float_spec.specs.Write.{limitedText, floatText, writeText, longestText}
 use Rattle.lexical_write_float_spec.specs.Limit.{limited}
 use Rattle.lexical_write_float_spec.specs.Claims.{FirstPlace, FirstDigit, LastDigit, LongestText, WholePower}
 use Rattle.lexical_write_float_spec.proofs.ValueLaws.{first-place as place-is, first-digit as first-is, last-digit as last-is}
@@ -52,7 +52,7 @@ last-digit b m e B o h =
     let n = m * 2 ^ modulo e b in
     last-is b m e B o (byte-zero (n % 2 ^ b) (sym (last-byte (2 ^ b) n 48 (radix-above b B)) ∙ h))
 
-limited-length : (f : Format) (F : NumberFormat) (o : Options) (row : Pair) → Writable F o row → (m : ℕ) (e : ℤ) → T (fits f (fin false m e)) → length (limitedText F o row m e) ≤ 2275
+limited-length : (f : Format) (F : NumberFormat) (o : Options) (row : Pair) → Writable F o row → (m : ℕ) (e : ℤ) → T (fits f (fin false m e)) → length (limitedText F o row m e) ≤ longestText
 unfolding limitedText
 limited-length f F o row W m e h =
     let v = limited (o .«round_mode») (row .b) (o .«max_significant_digits») m e in
@@ -62,7 +62,7 @@ pub longest-text : LongestText
 unfolding writeText floatText
 longest-text f F o x t h e = go (writingFormat F o) refl x h e
   where
-    go : (a : Answer Pair) → writingFormat F o ≡ a → (x : Float) → T (fits f x) → andThen a (floatText F o x) ≡ done t → length t ≤ 2275
+    go : (a : Answer Pair) → writingFormat F o ≡ a → (x : Float) → T (fits f x) → andThen a (floatText F o x) ≡ done t → length t ≤ longestText
     go (refused n p) w x h e = absurd (refused-done n p t e)
     go (done row) w nan h e = absurd (refused-done 7 0 t e)
     go (done row) w (inf s) h e = absurd (refused-done 7 0 t e)

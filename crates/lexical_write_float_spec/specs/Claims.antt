@@ -15,7 +15,7 @@ use Rattle.lexical_format.specs.declared.format.NumberFormat.{NumberFormat}
 use Rattle.lexical_format.specs.declared.options.Options.{Options}
 use Rattle.lexical_format.specs.Format.{writingFormat}
 use Rattle.lexical_write_float_spec.specs.Value.{exactDigits}
-use Rattle.lexical_write_float_spec.specs.Write.{writeText}
+use Rattle.lexical_write_float_spec.specs.Write.{writeText, longestText}
 
 -- the first digit's place is p: the last one's is floor (e / b), and the others stand above it
 abbrev pub FirstPlace : Type 0
@@ -31,7 +31,7 @@ LastDigit = (b m : ℕ) (e : ℤ) → 0 < b → m % 2 ≡ 1 → getD (exactDigit
 
 -- no text passes 2,275 bytes, with a digit limit or without, at either width
 abbrev pub LongestText : Type 0
-LongestText = (f : Format) (F : NumberFormat) (o : Options) (x : Float) (t : List ℕ) → T (fits f x) → writeText F o x ≡ done t → length t ≤ 2275
+LongestText = (f : Format) (F : NumberFormat) (o : Options) (x : Float) (t : List ℕ) → T (fits f x) → writeText F o x ≡ done t → length t ≤ longestText
 
 -- p * b / c is whole
 abbrev pub WholePower : Type 0

@@ -13,7 +13,7 @@ use Rattle.lexical_format.specs.declared.format.NumberFormat.{NumberFormat}
 use Rattle.lexical_format.specs.declared.options.Options.{Options}
 use Rattle.lexical_format.specs.declared.options.RoundMode.{RoundMode}
 use Rattle.lexical_format.specs.declared.options.RoundMode.the-variants.{Round, Truncate}
-use Rattle.lexical_write_float_spec.specs.Write.{writeText}
+use Rattle.lexical_write_float_spec.specs.Write.{writeText, longestText}
 
 -- r/base/exponent radix; mark "^", all else default
 abbrev formatWith : ℕ → ℕ → ℕ → Bool → Bool → Bool → Bool → NumberFormat
@@ -136,8 +136,8 @@ longestIn name most n wanted =
 
 unfoldable pub longest : List Example
 longest =
-    longestIn "2,275 bytes" 0 2275 (done 2275)
-    ∷ longestIn "2,274 bytes" 0 2274 (refused 8 0)
-    ∷ longestIn "2,275 bytes, limit 1,200" 1200 2275 (done 2275)
-    ∷ longestIn "2,274 bytes, limit 1,200" 1200 2274 (refused 8 0)
+    longestIn "the longest text" 0 longestText (done longestText)
+    ∷ longestIn "a byte less" 0 (longestText - 1) (refused 8 0)
+    ∷ longestIn "the longest text, limit 1,200" 1200 longestText (done longestText)
+    ∷ longestIn "a byte less, limit 1,200" 1200 (longestText - 1) (refused 8 0)
     ∷ []

@@ -15,6 +15,10 @@ use Rattle.lexical_format.specs.Format.{writingFormat}
 use Rattle.lexical_write_float_spec.specs.Limit.{limited}
 use Rattle.lexical_write_float_spec.specs.Text.{text}
 
+-- no text passes 2,275 bytes
+abbrev pub longestText : ℕ
+longestText = 2275
+
 module _ (F : NumberFormat) (o : Options) where
   -- the digit limit, then the layout of the result
   unfoldable pub limitedText : Pair → ℕ → ℤ → List ℕ
@@ -32,9 +36,9 @@ module _ (F : NumberFormat) (o : Options) where
   writeText x = andThen (writingFormat F o) (floatText x)
 
 -- ---- what is said of an answer besides
--- no text passes 2,275 bytes
+-- it is no longer than the longest text
 abbrev pub NoLonger : Answer ℕ → Type 0
-NoLonger (done n) = n ≤ 2275
+NoLonger (done n) = n ≤ longestText
 NoLonger (refused n p) = Unit {0}
 
 -- a finite float with the sign bit clear, a format that the writer admits and bytes enough for the text are never refused

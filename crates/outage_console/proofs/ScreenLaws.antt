@@ -17,14 +17,14 @@ use Rattle.lexical_format.specs.declared.format.Pair.{Pair}
 use Rattle.lexical_write_float.specs.Code.{Puts}
 use Rattle.lexical_write_float.proofs.PutLaws.{put-front}
 use Rattle.lexical_rewrite_spec.specs.declared.text_format.TextFormat.{TextFormat}
-use Rattle.outage_spec.specs.Table.{tableSize}
+use Rattle.outage_spec.specs.Table.{tableSize, mostWindows}
 use Rattle.outage_spec.specs.Calls.{sheetFormat, tableSheet, sheetTable}
 use Rattle.outage_spec.proofs.AgainLaws.{sheet-again}
 use Rattle.outage_spec.proofs.LengthLaws.{sheet-short}
 use Rattle.outage_spec.proofs.RoomLaws.{room-enough}
 use Rattle.outage_spec.proofs.StoredLaws.{Stored, stored}
 use Rattle.outage_spec.proofs.WayBackLaws.{table-again}
-use Rattle.outage_console.specs.Screen.{refusalLine, screen, reading, rewriting, shown, SameRows}
+use Rattle.outage_console.specs.Screen.{refusalLine, screen, reading, rewriting, shown, SameRows, longestSheetRead}
 use Rattle.outage_console.specs.Code.{putCount, putBytes}
 
 -- ---- a refusal's line
@@ -80,22 +80,22 @@ module _ (asked : Answer (List ℕ)) (out : List ℕ) (room : ℕ) where
 -- ---- a table of a sheet
 reading-stored : (F : TextFormat) (s t : List ℕ) → reading F s ≡ done t → Stored (F .format) (F .options) s t
 unfolding reading
-reading-stored F s t e = go (ltb 3277604 (length s)) e
+reading-stored F s t e = go (ltb longestSheetRead (length s)) e
   where
-    go : (b : Bool) → cond b (refused 15 3277604) (sheetTable (F .format) (F .options) s (tableSize 400)) ≡ done t → Stored (F .format) (F .options) s t
-    go true e = absurd (refused-done 15 3277604 t e)
-    go false e = stored (F .format) (F .options) s (tableSize 400) t e
+    go : (b : Bool) → cond b (refused 15 longestSheetRead) (sheetTable (F .format) (F .options) s (tableSize mostWindows)) ≡ done t → Stored (F .format) (F .options) s t
+    go true e = absurd (refused-done 15 longestSheetRead t e)
+    go false e = stored (F .format) (F .options) s (tableSize mostWindows) t e
 
-pub reading-within : (F : TextFormat) (s : List ℕ) → Within 6408 (reading F s)
+pub reading-within : (F : TextFormat) (s : List ℕ) → Within (tableSize mostWindows) (reading F s)
 reading-within F s t e = reading-stored F s t e .short
 
-pub reading-long : (F : TextFormat) (s : List ℕ) → 3277604 < length s → refused 15 3277604 ≡ reading F s
+pub reading-long : (F : TextFormat) (s : List ℕ) → longestSheetRead < length s → refused 15 longestSheetRead ≡ reading F s
 unfolding reading
-reading-long F s h = rw (lt-ltb 3277604 (length s) h)
+reading-long F s h = rw (lt-ltb longestSheetRead (length s) h)
 
-pub reading-short : (F : TextFormat) (s : List ℕ) (room : ℕ) → length s ≤ 3277604 → tableSize 400 ≤ room → sheetTable (F .format) (F .options) s room ≡ reading F s
+pub reading-short : (F : TextFormat) (s : List ℕ) (room : ℕ) → length s ≤ longestSheetRead → tableSize mostWindows ≤ room → sheetTable (F .format) (F .options) s room ≡ reading F s
 unfolding reading
-reading-short F s room h k = rw (le-ltb 3277604 (length s) h) (room-enough (F .format) (F .options) s room k)
+reading-short F s room h k = rw (le-ltb longestSheetRead (length s) h) (room-enough (F .format) (F .options) s room k)
 
 -- ---- a sheet rewritten
 pub rewriting-done : (F G : TextFormat) (s t : List ℕ) → reading F s ≡ done t → rewriting F G s ≡ tableSheet (G .format) (G .options) t
@@ -109,12 +109,12 @@ rewriting-refused F G s n p e = rw e
 -- it is never refused by a format that is taken
 pub rewriting-again : (F G : TextFormat) (s t : List ℕ) → reading F s ≡ done t → (row : Pair) → sheetFormat (G .format) (G .options) ≡ done row → (text : List ℕ) × (rewriting F G s ≡ done text)
 unfolding reading
-rewriting-again F G s t e row f = go (ltb 3277604 (length s)) e
+rewriting-again F G s t e row f = go (ltb longestSheetRead (length s)) e
   where
-    go : (b : Bool) → cond b (refused 15 3277604) (sheetTable (F .format) (F .options) s (tableSize 400)) ≡ done t → (text : List ℕ) × (rewriting F G s ≡ done text)
-    go true p = absurd (refused-done 15 3277604 t p)
+    go : (b : Bool) → cond b (refused 15 longestSheetRead) (sheetTable (F .format) (F .options) s (tableSize mostWindows)) ≡ done t → (text : List ℕ) × (rewriting F G s ≡ done text)
+    go true p = absurd (refused-done 15 longestSheetRead t p)
     go false p =
-        let again = sheet-again (F .format) (F .options) s (tableSize 400) t p (G .format) (G .options) row f in
+        let again = sheet-again (F .format) (F .options) s (tableSize mostWindows) t p (G .format) (G .options) row f in
         (again .0, rewriting-done F G s t e ∙ again .1)
 
 pub same-rows : (F G : TextFormat) (s : List ℕ) → SameRows F G s
@@ -126,7 +126,7 @@ same-rows F G s text e = go (reading F s) refl e
     go (done t) q e =
         let k = reading-stored F s t q in
         let short = sheet-short (G .format) (G .options) t text e in
-        sym (reading-short G text (tableSize 400) (omega arith) (omega arith)) ∙ table-again (G .format) (G .options) t text (k .are-bytes) e (tableSize 400) (k .short)
+        sym (reading-short G text (tableSize mostWindows) (omega arith) (omega arith)) ∙ table-again (G .format) (G .options) t text (k .are-bytes) e (tableSize mostWindows) (k .short)
 
 -- ---- a refusal's line at the front
 pub put-line : (d out : List ℕ) (n p r : ℕ) → Puts d 0 (refusalLine n p) r out → (r ≡ length (refusalLine n p)) × (out ≡ refusalLine n p ++ drop (length (refusalLine n p)) d)

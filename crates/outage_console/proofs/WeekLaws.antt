@@ -4,7 +4,7 @@ use mathlib.Core.Path.{refl, sym, _∙_}
 use mathlib.Core.List.{List, [], _∷_}
 use native.Mathlib.Omega.{arith}
 use Rattle.lexical_rewrite_spec.specs.declared.text_format.TextFormat.{TextFormat}
-use Rattle.outage_spec.specs.Table.{tableSize}
+use Rattle.outage_spec.specs.Table.{tableSize, mostWindows}
 use Rattle.outage_spec.specs.Format.{printed}
 use Rattle.outage_spec.proofs.LengthLaws.{sheet-short}
 use Rattle.outage_spec.proofs.TableLaws.{header}
@@ -27,4 +27,4 @@ table-returns t bytes s e =
     let h = header t (k .count) (k .is-count) in
     let short = sheet-short (printed .format) (printed .options) t s e in
     sheet-returns printed s t
-    (sym (reading-short printed s (tableSize 400) (omega arith) (omega arith)) ∙ table-again (printed .format) (printed .options) t s bytes e (tableSize 400) (omega (arith, h .size, h .few)))
+    (sym (reading-short printed s (tableSize mostWindows) (omega arith) (omega arith)) ∙ table-again (printed .format) (printed .options) t s bytes e (tableSize mostWindows) (omega (arith, h .size, h .few)))

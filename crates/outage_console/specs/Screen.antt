@@ -8,9 +8,11 @@ use lib.ListN.{length, drop}
 use Rattle.lexical_util.specs.Answer.{Answer, done, refused, andThen}
 use Rattle.lexical_write_integer_spec.specs.Digits.{numeral}
 use Rattle.lexical_rewrite_spec.specs.declared.text_format.TextFormat.{TextFormat}
-use Rattle.outage_spec.specs.Table.{tableSize}
+use Rattle.outage_spec.specs.Table.{mostWindows, tableSize}
+use Rattle.outage_spec.specs.Sheet.{sheetSize}
 use Rattle.outage_spec.specs.Format.{printed}
 use Rattle.outage_spec.specs.Calls.{tableSheet, sheetTable}
+use Rattle.lexical_read_float_spec.specs.Read.{longestRead}
 
 -- "refused N at P" and LF, with number and place in radix 10
 unfoldable pub refusalLine : ℕ → ℕ → List ℕ
@@ -26,9 +28,13 @@ screen (refused n p) = refusalLine n p
 abbrev pub printing : List ℕ → Answer (List ℕ)
 printing t = tableSheet (printed .format) (printed .options) t
 
--- a sheet's table. No sheet is longer than 400 rows of two texts of 4,096 bytes each, a space and an LF, behind a count line of four bytes: 3,277,604 bytes. 15: more than that, at the first byte too many
+-- no sheet that is read is longer than one of the longest texts that are
+abbrev pub longestSheetRead : ℕ
+longestSheetRead = sheetSize longestRead
+
+-- a sheet's table. 15: longer than any, at the first byte too many
 unfoldable pub reading : TextFormat → List ℕ → Answer (List ℕ)
-reading F s = cond (ltb 3277604 (length s)) (refused 15 3277604) (sheetTable (F .format) (F .options) s (tableSize 400))
+reading F s = cond (ltb longestSheetRead (length s)) (refused 15 longestSheetRead) (sheetTable (F .format) (F .options) s (tableSize mostWindows))
 
 -- the same rows in another format
 unfoldable pub rewriting : TextFormat → TextFormat → List ℕ → Answer (List ℕ)

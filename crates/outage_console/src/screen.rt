@@ -6,12 +6,17 @@ ghost use Rattle.lexical_util.specs.Answer.{written, held, ofWritten};
 ghost use Rattle.outage_console.specs.Screen.{printing, reading, rewriting, screen, shown, SameRows};
 ghost use Rattle.outage_console.specs.Code.{putCount, putBytes};
 ghost use Rattle.outage_console.specs.Week.{SheetReturns, TableReturns};
+ghost use Rattle.outage_spec.specs.Table.{mostWindows, tableSize};
 use crate::argument::sheet_in;
 use crate::refusal::put_refusal;
+use lexical_read_float::LONGEST_READ;
 use lexical_rewrite_spec::TextFormat;
 use lexical_util::Refusal;
 use lexical_util::Written;
+use outage::LONGEST_TABLE;
+use outage::MOST_WINDOWS;
 use outage_sheet::sheet_to_table;
+use outage_table::LONGEST_SHEET;
 use outage_table::table_to_sheet;
 
 // Bytes that a call has written into those lent, or its refusal.
@@ -27,7 +32,7 @@ fn put_answer(out: &mut [u8], answer: Written) -> usize
 }
 
 // The sheet of a table in 16/2, exponent radix 10, mark "p", exponent required, or the refusal: how many bytes are shown. No sheet is longer than the bytes lent.
-pub fn print_sheet(table: &[u8], out: &mut [u8; 1820804]) -> usize
+pub fn print_sheet(table: &[u8], out: &mut [u8; LONGEST_SHEET]) -> usize
     ensures { λ r. ⌜ r ≡ length (screen (printing (now (table .entry)))) ⌝ }
     ensures { λ _. ⌜ now (out .exit) ≡ shown (printing (now (table .entry))) (now (out .entry)) ⌝ }
     ensures within { λ r. ⌜ r ≤ length (now (out .exit)) ⌝ }
@@ -38,23 +43,26 @@ pub fn print_sheet(table: &[u8], out: &mut [u8; 1820804]) -> usize
     put_answer(out, answer)
 }
 
+// No sheet that is read is longer: the most windows, in rows of two of the longest texts that are read, a space and an LF, behind a count line of four bytes.
+pub const LONGEST_SHEET_READ: usize = 4 + MOST_WINDOWS * (2 * (LONGEST_READ + 1));
+
 // A sheet's table in bytes enough for any, unless the sheet is longer than any.
 fn table_of(sheet: &[u8], format: TextFormat, table: &mut [u8]) -> Written
-    requires { ⌜ 6408 ≤ length (now table) ⌝ }
+    requires { ⌜ tableSize mostWindows ≤ length (now table) ⌝ }
     ensures { λ r. ⌜ ofWritten r ≡ written (reading format (now (sheet .entry))) (now (table .entry)) ⌝ }
     ensures { λ _. ⌜ now (table .exit) ≡ held (reading format (now (sheet .entry))) (now (table .entry)) ⌝ }
 {
-    if sheet.len() > 3277604 {
+    if sheet.len() > LONGEST_SHEET_READ {
         return Written::Refused(Refusal {
             number: 15,
-            place: 3277604,
+            place: LONGEST_SHEET_READ,
         });
     }
     sheet_to_table(sheet, format.format, format.options, table)
 }
 
 // The table of a sheet in a format, or the refusal: how many bytes are shown. No table is longer than the bytes lent.
-pub fn read_sheet(sheet: &[u8], format: TextFormat, out: &mut [u8; 6408]) -> usize
+pub fn read_sheet(sheet: &[u8], format: TextFormat, out: &mut [u8; LONGEST_TABLE]) -> usize
     ensures { λ r. ⌜ r ≡ length (screen (reading format (now (sheet .entry)))) ⌝ }
     ensures { λ _. ⌜ now (out .exit) ≡ shown (reading format (now (sheet .entry))) (now (out .entry)) ⌝ }
     ensures within { λ r. ⌜ r ≤ length (now (out .exit)) ⌝ }
@@ -68,7 +76,7 @@ pub fn rewrite_sheet(
     sheet: &[u8],
     from: TextFormat,
     to: TextFormat,
-    out: &mut [u8; 1820804],
+    out: &mut [u8; LONGEST_SHEET],
 ) -> usize
     ensures { λ r. ⌜ r ≡ length (screen (rewriting from to (now (sheet .entry)))) ⌝ }
     ensures { λ _. ⌜ now (out .exit) ≡ shown (rewriting from to (now (sheet .entry))) (now (out .entry)) ⌝ }
@@ -76,7 +84,7 @@ pub fn rewrite_sheet(
     ensures same_rows { λ _. ⌜ SameRows from to (now (sheet .entry)) ⌝ }
     ensures never_lost { λ _. ⌜ SheetReturns from (now (sheet .entry)) ⌝ }
 {
-    let mut table = [0u8; 6408];
+    let mut table = [0u8; LONGEST_TABLE];
     match table_of(sheet, from, &mut table) {
         Written::Length(count) => {
             let answer = table_to_sheet(&table[0..count], to.format, to.options, out);

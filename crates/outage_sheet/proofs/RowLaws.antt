@@ -20,7 +20,7 @@ use Rattle.lexical_float.proofs.PartsLaws.{value-no-nan}
 use Rattle.lexical_read_float_spec.specs.Shape.{Tail, absent, exponent, Shape, Grammar}
 use Rattle.lexical_read_float_spec.specs.Parse.{Parsed, found, stuck, parse, ofParsed, shapeOf}
 use Rattle.lexical_read_float_spec.specs.Round.{tooLarge}
-use Rattle.lexical_read_float_spec.specs.Read.{grammarOf, numerator, denominator, floatOf, exponentTooLarge, exponentPlace, valueOf, readText, readFloat}
+use Rattle.lexical_read_float_spec.specs.Read.{grammarOf, numerator, denominator, floatOf, exponentTooLarge, exponentPlace, valueOf, readText, readFloat, longestRead}
 use Rattle.lexical_read_float_spec.proofs.ReadLaws.{read-is-nearest}
 use Rattle.outage_spec.specs.declared.window.Window.{Window}
 use Rattle.outage_spec.specs.Window.{windowChecks, judged, from}
@@ -87,7 +87,7 @@ value-within row power t s = go (exponentTooLarge power (s .tail))
 text-within : (G : Grammar) (t : List ℕ) (row : Pair) → Within any (length t) (readText binary64 G t row)
 unfolding readText shapeOf
 text-within G t row =
-    within-checked any (length t) ((12, ltb 4096 (length t)) ∷ []) (andThen (shapeOf G t) (valueOf binary64 row (G .exponentRadix) t))
+    within-checked any (length t) ((12, ltb longestRead (length t)) ∷ []) (andThen (shapeOf G t) (valueOf binary64 row (G .exponentRadix) t))
     (within-then any any (length t) (shapeOf G t) (valueOf binary64 row (G .exponentRadix) t) (shape-within t (parse G t)) (λ s _. value-within row (G .exponentRadix) t s))
 
 abbrev pub IsNumber : Float → Type 0

@@ -10,7 +10,7 @@ use Rattle.lexical_format.specs.declared.format.Pair.{Pair}
 use Rattle.lexical_format.specs.declared.format.NumberFormat.{NumberFormat}
 use Rattle.lexical_format.specs.declared.options.Options.{Options}
 use Rattle.lexical_format.specs.Format.{readingFormat}
-use Rattle.outage_spec.specs.Table.{tableSize}
+use Rattle.outage_spec.specs.Table.{tableSize, mostWindows}
 use Rattle.outage_spec.specs.Sheet.{before, numberIn, orWrong, sheetCount, linesFrom}
 use Rattle.outage_spec.specs.Calls.{countedTable, sheetTable}
 use Rattle.outage_spec.proofs.BeforeLaws.{before-take}
@@ -22,7 +22,7 @@ module _ (s : List ℕ) where
   unfolding sheetCount
   count-open k = rw (eq-eqb (length (before 10 s)) (length s) k)
 
-  pub count-read : (m : ℕ) → m ≡ length (before 10 s) → (m ≡ length s → ⊥) → (n : Option ℕ) → n ≡ numberIn 400 (take m s) → sheetCount s ≡ orWrong n
+  pub count-read : (m : ℕ) → m ≡ length (before 10 s) → (m ≡ length s → ⊥) → (n : Option ℕ) → n ≡ numberIn mostWindows (take m s) → sheetCount s ≡ orWrong n
   unfolding sheetCount
   count-read m f k n e =
       let t : take m s ≡ before 10 s = ap (λ (i : ℕ). take i s) f ∙ before-take 10 s in

@@ -10,7 +10,7 @@ use Rattle.lexical_util.specs.Answer.{Answer, done, refused}
 use Rattle.lexical_write_float.specs.Code.{put}
 use Rattle.outage_spec.specs.declared.window.Window.{Window}
 use Rattle.outage_spec.specs.Words.{toBytes}
-use Rattle.outage_spec.specs.Table.{tableSize}
+use Rattle.outage_spec.specs.Table.{headerSize, floatSize, tableSize}
 
 -- its floats have bits
 abbrev pub Stored : Window → Type 0
@@ -21,7 +21,7 @@ putHeader t n = put (put t 0 (toBytes 4 n)) 4 (toBytes 4 (tableSize n))
 
 -- row i of n
 abbrev pub putWindow : List ℕ → ℕ → ℕ → Window → List ℕ
-putWindow t n i w = put (put t (8 + 8 * i) (toBytes 8 (toBits binary64 (w .start)))) (8 + 8 * n + 8 * i) (toBytes 8 (toBits binary64 (w .end)))
+putWindow t n i w = put (put t (headerSize + floatSize * i) (toBytes floatSize (toBits binary64 (w .start)))) (headerSize + floatSize * n + floatSize * i) (toBytes floatSize (toBits binary64 (w .end)))
 
 -- the rows from row i on
 unfoldable pub fill : ℕ → ℕ → List Window → List ℕ → List ℕ

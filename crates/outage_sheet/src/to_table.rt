@@ -4,7 +4,7 @@ ghost use mathlib.Core.Option.{none};
 ghost use Prim.Native.Nat.{_≤_};
 ghost use lib.ListN.{length, drop};
 ghost use Rattle.lexical_util.specs.Answer.{done, andThen, written, held, ofWritten};
-ghost use Rattle.outage_spec.specs.Table.{tableSize, tableOf};
+ghost use Rattle.outage_spec.specs.Table.{tableSize, tableOf, mostWindows};
 ghost use Rattle.outage_spec.specs.Sheet.{linesFrom};
 ghost use Rattle.outage_spec.specs.Calls.{countedTable, sheetTable};
 ghost use Rattle.outage_sheet.specs.Fill.{FilledTable};
@@ -19,9 +19,16 @@ use lexical_format::check_reading;
 use lexical_util::Refusal;
 use lexical_util::Written;
 use outage::CheckedWindow;
+use outage::HEADER_SIZE;
+use outage::LONGEST_TABLE;
+use outage::MOST_WINDOWS;
 use outage::Number;
+use outage::ROW_SIZE;
 use outage::find;
 use outage::read_number;
+
+// The most windows, as wide as a number that is read.
+const MOST: u32 = MOST_WINDOWS as u32;
 
 // The rows from a place on, n of them, into a table whose header stands; last 15 for extra bytes.
 fn read_rows(
@@ -32,7 +39,7 @@ fn read_rows(
     options: Options,
     table: &mut [u8],
 ) -> Written
-    requires { ⌜ (from ≤ length (now sheet)) × (n ≤ 400) × (tableSize n ≤ length (now table)) ⌝ }
+    requires { ⌜ (from ≤ length (now sheet)) × (n ≤ mostWindows) × (tableSize n ≤ length (now table)) ⌝ }
     ensures { λ r. ⌜ ofWritten r ≡ andThen (linesFrom format options n from none (drop from (now (sheet .entry)))) (λ ws. done (tableSize n)) ⌝ }
     ensures { λ _. ⌜ FilledTable n 0 (now (table .entry)) (linesFrom format options n from none (drop from (now (sheet .entry)))) (now (table .exit)) ⌝ }
 {
@@ -58,7 +65,7 @@ fn read_rows(
             place: at,
         });
     }
-    Written::Length(8 + 16 * n)
+    Written::Length(HEADER_SIZE + ROW_SIZE * n)
 }
 
 // The table of the rows from a place on, where the bytes lent are enough for n of them.
@@ -70,11 +77,11 @@ fn read_table(
     options: Options,
     table: &mut [u8],
 ) -> Written
-    requires { ⌜ (from ≤ length (now sheet)) × (n ≤ 400) × (tableSize n ≤ length (now table)) ⌝ }
+    requires { ⌜ (from ≤ length (now sheet)) × (n ≤ mostWindows) × (tableSize n ≤ length (now table)) ⌝ }
     ensures { λ r. ⌜ ofWritten r ≡ written (andThen (linesFrom format options n from none (drop from (now (sheet .entry)))) (λ ws. done (tableOf ws))) (now (table .entry)) ⌝ }
     ensures { λ _. ⌜ now (table .exit) ≡ held (andThen (linesFrom format options n from none (drop from (now (sheet .entry)))) (λ ws. done (tableOf ws))) (now (table .entry)) ⌝ }
 {
-    let mut rows = [0u8; 6408];
+    let mut rows = [0u8; LONGEST_TABLE];
     put_header(&mut rows, n);
     match read_rows(sheet, from, n, format, options, &mut rows) {
         Written::Length(size) => {
@@ -97,14 +104,14 @@ fn read_counted(sheet: &[u8], format: NumberFormat, options: Options, table: &mu
             place: 0,
         });
     }
-    let Number::Is(count) = read_number(&sheet[..newline], 400) else {
+    let Number::Is(count) = read_number(&sheet[..newline], MOST) else {
         return Written::Refused(Refusal {
             number: 15,
             place: 0,
         });
     };
     let n = count as usize;
-    if table.len() < 8 + 16 * n {
+    if table.len() < HEADER_SIZE + ROW_SIZE * n {
         return Written::Refused(Refusal {
             number: 8,
             place: 0,

@@ -22,8 +22,9 @@ use Rattle.lexical_read_float_spec.specs.Read.{readFloat}
 use Rattle.lexical_read_float_spec.proofs.ReadLaws.{read-is-nearest}
 use Rattle.outage_spec.specs.declared.window.Window.{Window}
 use Rattle.outage_spec.specs.Words.{ofBytes, toBytes, wordAt}
-use Rattle.outage_spec.specs.Window.{Column, isPlain, windowChecks, from}
-use Rattle.outage_spec.specs.Table.{tableSize, columnBytes, tableOf, tableCount, floatAt, rowAt, rowsFrom, tableWindows}
+use Rattle.lexical_float.specs.Parts.{isPlain}
+use Rattle.outage_spec.specs.Window.{Column, windowChecks, from}
+use Rattle.outage_spec.specs.Table.{tableSize, columnBytes, tableOf, tableCount, floatAt, rowAt, rowsFrom, tableWindows, mostWindows}
 use Rattle.outage_spec.specs.Sheet.{before, lacks, rowsText, sheetOf, fieldsWindow, lineWindow, rowIn, linesFrom}
 use Rattle.outage_spec.specs.Calls.{sheetFormat, tableSheet, sheetTable}
 use Rattle.outage_spec.proofs.WordLaws.{bytes-length, of-bytes}
@@ -118,7 +119,7 @@ column-split c (v ∷ pre) w ws = rw (column-split c pre w ws, append-assoc)
 float-again : (x : Float) → T (fits binary64 x) → ofBits binary64 (ofBytes (toBytes 8 (toBits binary64 x))) ≡ x
 float-again x h = ap (ofBits binary64) (of-bytes 8 (toBits binary64 x) (toBits-lt binary64 x h)) ∙ ofBits-toBits binary64 x h
 
-table-count : (ws : List Window) → length ws ≤ 400 → tableCount (tableOf ws) ≡ done (length ws)
+table-count : (ws : List Window) → length ws ≤ mostWindows → tableCount (tableOf ws) ≡ done (length ws)
 unfolding tableCount tableOf
 table-count ws h =
     let n = length ws in
@@ -128,7 +129,7 @@ table-count ws h =
     let first : wordAt 4 (a ++ (b ++ columns-are)) 0 ≡ n = word-in 4 [] a (b ++ columns-are) 0 refl (bytes-length 4 n) ∙ of-bytes 4 n (omega arith) in
     let second : wordAt 4 (a ++ (b ++ columns-are)) 4 ≡ tableSize n = word-in 4 a b columns-are 4 (bytes-length 4 n) (bytes-length 4 (tableSize n)) ∙ of-bytes 4 (tableSize n) (omega arith) in
     let size : length (a ++ (b ++ columns-are)) ≡ tableSize n = table-length ws in
-    rw (first, second, size, le-ltb (tableSize n) 8 (omega arith), le-ltb 400 n h, eq-eqb (tableSize n) (tableSize n) refl)
+    rw (first, second, size, le-ltb (tableSize n) 8 (omega arith), le-ltb mostWindows n h, eq-eqb (tableSize n) (tableSize n) refl)
 
 -- ---- row i of it, where i windows stand before
 module _ (pre : List Window) (w : Window) (ws : List Window) (good : Good w) where
@@ -178,7 +179,7 @@ rows-again (w ∷ ws) pre h =
     (subst (λ (l : List Window). rowsFrom (tableOf l) (length l) (length (pre ++ (w ∷ []))) (length ws) ≡ done ws) same (rows-again ws (pre ++ (w ∷ [])) (h .1))) in
     rw (row-again pre w ws (h .0), ih)
 
-windows-again : (ws : List Window) → All Good ws → length ws ≤ 400 → tableWindows (tableOf ws) ≡ done ws
+windows-again : (ws : List Window) → All Good ws → length ws ≤ mostWindows → tableWindows (tableOf ws) ≡ done ws
 unfolding tableWindows
 windows-again ws h few = rw (table-count ws few) (rows-again ws [] h)
 
@@ -192,7 +193,7 @@ rows-text F o row w (v ∷ vs) h =
     let r = rows-text F o row w vs (h .1) in
     ((s .0 ++ (32 ∷ (e .0 ++ (10 ∷ [])))) ++ r .0, rw (s .1, e .1, r .1))
 
-windows-sheet : (G : NumberFormat) (q : Options) (row : Pair) → sheetFormat G q ≡ done row → (ws : List Window) → All Good ws → length ws ≤ 400 → (text : List ℕ) × (tableSheet G q (tableOf ws) ≡ done text)
+windows-sheet : (G : NumberFormat) (q : Options) (row : Pair) → sheetFormat G q ≡ done row → (ws : List Window) → All Good ws → length ws ≤ mostWindows → (text : List ℕ) × (tableSheet G q (tableOf ws) ≡ done text)
 unfolding tableSheet sheetOf
 windows-sheet G q row f ws good few =
     let texts = rows-text G q row (taken G q row f .writes) ws good in

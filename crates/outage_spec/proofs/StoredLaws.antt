@@ -19,7 +19,7 @@ use Rattle.lexical_format.specs.Format.{readingFormat}
 use Rattle.outage_spec.specs.declared.window.Window.{Window}
 use Rattle.outage_spec.specs.Words.{toBytes}
 use Rattle.outage_spec.specs.Window.{Column, from}
-use Rattle.outage_spec.specs.Table.{tableSize, columnBytes, tableOf}
+use Rattle.outage_spec.specs.Table.{tableSize, columnBytes, tableOf, mostWindows}
 use Rattle.outage_spec.specs.Sheet.{before, lacks, onDigit, numberOn, numberIn, orWrong, sheetCount, rowIn, linesFrom, sheetRows}
 use Rattle.outage_spec.specs.Calls.{countedTable, sheetTable}
 use Rattle.outage_spec.proofs.WordLaws.{AreBytes, bytes-length}
@@ -52,17 +52,17 @@ number-le limit (x ∷ y ∷ ys) n e = go (eqb x 48) e
     go true e = absurd (none-some n e)
     go false e = on-le limit (x ∷ y ∷ ys) 0 n (omega arith) e
 
-pub count-few : (s : List ℕ) (n : ℕ) → sheetCount s ≡ done n → n ≤ 400
+pub count-few : (s : List ℕ) (n : ℕ) → sheetCount s ≡ done n → n ≤ mostWindows
 unfolding sheetCount
 count-few s n e = go (lacks 10 s) e
   where
-    by-number : (v : Option ℕ) → numberIn 400 (before 10 s) ≡ v → orWrong v ≡ done n → n ≤ 400
+    by-number : (v : Option ℕ) → numberIn mostWindows (before 10 s) ≡ v → orWrong v ≡ done n → n ≤ mostWindows
     by-number none q e = absurd (refused-done 15 0 n e)
-    by-number (some m) q e = number-le 400 (before 10 s) n (q ∙ ap some (done-same m n e))
+    by-number (some m) q e = number-le mostWindows (before 10 s) n (q ∙ ap some (done-same m n e))
 
-    go : (b : Bool) → cond b (refused 15 0) (orWrong (numberIn 400 (before 10 s))) ≡ done n → n ≤ 400
+    go : (b : Bool) → cond b (refused 15 0) (orWrong (numberIn mostWindows (before 10 s))) ≡ done n → n ≤ mostWindows
     go true e = absurd (refused-done 15 0 n e)
-    go false e = by-number (numberIn 400 (before 10 s)) refl e
+    go false e = by-number (numberIn mostWindows (before 10 s)) refl e
 
 -- ---- as many windows as rows
 abbrev pub Counted : ℕ → Answer (List Window) → Type 0
@@ -140,9 +140,9 @@ pub record Stored (F : NumberFormat) (o : Options) (s t : List ℕ) : Type 0 whe
   pub windows : List Window
   pub are-rows : sheetRows F o s count ≡ done windows
   pub is-table : tableOf windows ≡ t
-  pub few : length windows ≤ 400
+  pub few : length windows ≤ mostWindows
   pub are-bytes : AreBytes t
-  pub short : length t ≤ 6408
+  pub short : length t ≤ (tableSize mostWindows)
 
 pub stored : (F : NumberFormat) (o : Options) (s : List ℕ) (room : ℕ) (t : List ℕ) → sheetTable F o s room ≡ done t → Stored F o s t
 unfolding sheetTable countedTable

@@ -19,7 +19,7 @@ use Rattle.lexical_write_float_spec.specs.Write.{limitedText, floatText, writeT
 use Rattle.lexical_read_float_spec.specs.Shape.{Grammar, Sign, unsigned, plus, minus, Tail, absent, exponent, Shape, signBytes, tailBytes, fractionBytes, print}
 use Rattle.lexical_read_float_spec.specs.Read.{grammarOf}
 use Rattle.lexical_rewrite_spec.proofs.WrittenLaws.{written-is-shaped}
-use Rattle.outage_spec.specs.Window.{isPlain}
+use Rattle.lexical_float.specs.Parts.{isPlain}
 use Rattle.outage_spec.proofs.BeforeLaws.{Lacks, lacks-append}
 
 -- ---- the bytes of a shape

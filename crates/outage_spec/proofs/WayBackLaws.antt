@@ -16,7 +16,7 @@ use Rattle.lexical_format.specs.declared.format.NumberFormat.{NumberFormat}
 use Rattle.lexical_format.specs.declared.format.Pair.{Pair}
 use Rattle.lexical_format.specs.declared.options.Options.{Options}
 use Rattle.outage_spec.specs.declared.window.Window.{Window}
-use Rattle.outage_spec.specs.Table.{tableSize, tableOf, tableCount, rowsFrom, tableWindows}
+use Rattle.outage_spec.specs.Table.{tableSize, tableOf, tableCount, rowsFrom, tableWindows, mostWindows}
 use Rattle.outage_spec.specs.Sheet.{before, rowsText, sheetOf, sheetCount}
 use Rattle.outage_spec.specs.Calls.{sheetFormat, tableSheet, countedTable, sheetTable, WayBack}
 use Rattle.outage_spec.proofs.WordLaws.{AreBytes}
@@ -77,11 +77,11 @@ module _ (n : ℕ) (rows : List ℕ) where
   unfolding numeral
   count-line = before-at 10 (numeral 10 n) rows (digits-lack 10 (omega arith) (digits 10 n))
 
-  count-back : n ≤ 400 → sheetCount (numeral 10 n ++ (10 ∷ rows)) ≡ done n
+  count-back : n ≤ mostWindows → sheetCount (numeral 10 n ++ (10 ∷ rows)) ≡ done n
   unfolding sheetCount
   count-back h =
       let size : length (numeral 10 n ++ (10 ∷ rows)) ≡ length (numeral 10 n) + suc (length rows) = length-append (numeral 10 n) (10 ∷ rows) in
-      rw (count-line, ne-eqb (length (numeral 10 n)) (length (numeral 10 n ++ (10 ∷ rows))) (omega arith), number-numeral 400 n h)
+      rw (count-line, ne-eqb (length (numeral 10 n)) (length (numeral 10 n ++ (10 ∷ rows))) (omega arith), number-numeral mostWindows n h)
 
 pub table-again : (F : NumberFormat) (o : Options) (t text : List ℕ) → AreBytes t → tableSheet F o t ≡ done text → (room : ℕ) → length t ≤ room → sheetTable F o text room ≡ done t
 unfolding sheetTable countedTable

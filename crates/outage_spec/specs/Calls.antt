@@ -11,7 +11,8 @@ use Rattle.lexical_format.specs.declared.format.Pair.{Pair}
 use Rattle.lexical_format.specs.declared.options.Options.{Options}
 use Rattle.lexical_format.specs.Format.{pairOf, readingChecks, given, badCounts, badBreaks, checkedPair, readingFormat}
 use Rattle.outage_spec.specs.Table.{tableSize, tableOf, tableWindows}
-use Rattle.outage_spec.specs.Sheet.{sheetOf, sheetCount, sheetRows}
+use Rattle.outage_spec.specs.Sheet.{sheetSize, sheetOf, sheetCount, sheetRows}
+use Rattle.lexical_write_float_spec.specs.Write.{longestText}
 
 module _ (F : NumberFormat) (o : Options) where
   -- ---- table to sheet
@@ -44,7 +45,7 @@ module _ (F : NumberFormat) (o : Options) where
       → (written (sheetTable (take m sheet) (length out)) out ≡ done (length t))
       × (held (sheetTable (take m sheet) (length out)) out ≡ t ++ drop (length t) out)
 
--- ---- no sheet passes 1,820,804 bytes: 400 rows of two texts of 2,275 bytes, a space and an LF, behind a count line of four
+-- ---- no sheet is longer than one of the longest texts
 abbrev pub LongestSheet : Answer ℕ → Type 0
-LongestSheet (done n) = n ≤ 1820804
+LongestSheet (done n) = n ≤ sheetSize longestText
 LongestSheet (refused n p) = Unit {0}

@@ -15,6 +15,7 @@ use Rattle.lexical_write_float_spec.specs.Write.{writeText}
 use Rattle.lexical_read_float_spec.specs.Read.{readFloat}
 use Rattle.outage_spec.specs.declared.window.Window.{Window}
 use Rattle.outage_spec.specs.Window.{Column, columns, judged, from}
+use Rattle.outage_spec.specs.Table.{mostWindows}
 
 -- ---- the parts of a sheet
 -- the bytes before the first b, all where there is none
@@ -57,6 +58,10 @@ module _ (F : NumberFormat) (o : Options) where
   unfoldable pub sheetOf : List Window → Answer (List ℕ)
   sheetOf ws = andThen (rowsText ws) (λ t. done (numeral 10 (length ws) ++ (10 ∷ t)))
 
+-- the most windows, with texts of so many bytes: behind a count line of four, rows of two texts, a space and an LF
+abbrev pub sheetSize : ℕ → ℕ
+sheetSize text = 4 + mostWindows * (2 * (text + 1))
+
 -- ---- the windows of a sheet
 -- 15 count line wrong (no LF, not such a number, or above 400); else n
 abbrev pub orWrong : Option ℕ → Answer ℕ
@@ -64,7 +69,7 @@ orWrong none = refused 15 0
 orWrong (some n) = done n
 
 unfoldable pub sheetCount : List ℕ → Answer ℕ
-sheetCount s = checked ((15, lacks 10 s) ∷ []) (orWrong (numberIn 400 (before 10 s)))
+sheetCount s = checked ((15, lacks 10 s) ∷ []) (orWrong (numberIn mostWindows (before 10 s)))
 
 module _ (F : NumberFormat) (o : Options) where
   -- the start's refusal, the end's, then 14; the fields stand in a line, one space between them

@@ -11,14 +11,28 @@ use Rattle.outage_spec.specs.declared.window.Window.{Window}
 use Rattle.outage_spec.specs.Words.{toBytes, wordAt}
 use Rattle.outage_spec.specs.Window.{Column, columns, tableRow, from}
 
+-- n at most 400
+abbrev pub mostWindows : ℕ
+mostWindows = 400
+
+-- the count and the length in front, of four bytes each; a float has eight, and a row two floats
+abbrev pub headerSize : ℕ
+headerSize = 8
+
+abbrev pub floatSize : ℕ
+floatSize = 8
+
+abbrev pub rowSize : ℕ
+rowSize = 2 * floatSize
+
 abbrev pub tableSize : ℕ → ℕ
-tableSize n = 8 + 16 * n
+tableSize n = headerSize + rowSize * n
 
 -- ---- the table of windows
 -- a column: one float of each window
 unfoldable pub columnBytes : Column → List Window → List ℕ
 columnBytes c [] = []
-columnBytes c (w ∷ ws) = toBytes 8 (toBits binary64 (c w)) ++ columnBytes c ws
+columnBytes c (w ∷ ws) = toBytes floatSize (toBits binary64 (c w)) ++ columnBytes c ws
 
 -- n starts, then n ends
 abbrev pub columnsBytes : List Column → List Window → List ℕ
@@ -33,15 +47,15 @@ tableOf ws = toBytes 4 (length ws) ++ (toBytes 4 (tableSize (length ws)) ++ colu
 unfoldable pub tableCount : List ℕ → Answer ℕ
 tableCount t =
     let n = wordAt 4 t 0 in
-    checked ((13, ltb (length t) 8) ∷ (13, ltb 400 n) ∷ (13, not (eqb (wordAt 4 t 4) (tableSize n))) ∷ (13, not (eqb (length t) (tableSize n))) ∷ []) (done n)
+    checked ((13, ltb (length t) headerSize) ∷ (13, ltb mostWindows n) ∷ (13, not (eqb (wordAt 4 t 4) (tableSize n))) ∷ (13, not (eqb (length t) (tableSize n))) ∷ []) (done n)
 
 -- the float whose bits stand at a place
 abbrev pub floatAt : List ℕ → ℕ → Float
-floatAt t at = ofBits binary64 (wordAt 8 t at)
+floatAt t at = ofBits binary64 (wordAt floatSize t at)
 
 -- row i of n: a start, and as far behind the starts an end
 abbrev pub windowAt : List ℕ → ℕ → ℕ → Window
-windowAt t n i = record { start = floatAt t (8 + 8 * i); end = floatAt t (8 + 8 * n + 8 * i) }
+windowAt t n i = record { start = floatAt t (headerSize + floatSize * i); end = floatAt t (headerSize + floatSize * n + floatSize * i) }
 
 -- the row above row i
 abbrev pub rowAbove : List ℕ → ℕ → ℕ → Option Window

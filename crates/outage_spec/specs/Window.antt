@@ -1,10 +1,11 @@
 -- A window's columns and its checks: document 01, "Outage table and sheet" and "Table to sheet". Definitions only.
 use Prim.Native.Nat.{ℕ, _+_}
-use mathlib.Core.Bool.{Bool, false, not}
+use mathlib.Core.Bool.{not}
 use mathlib.Core.List.{List, [], _∷_, _++_}
 use mathlib.Core.Option.{Option}
-use lib.Ieee.{Float, nan, inf, fin, lt}
+use lib.Ieee.{Float, lt}
 use Rattle.lexical_util.specs.Answer.{Answer, done, refused, Check, checked}
+use Rattle.lexical_float.specs.Parts.{isPlain}
 use Rattle.outage_spec.specs.declared.window.Window.{Window}
 
 -- the columns of a table, the fields of a sheet's row: one start and one end
@@ -13,12 +14,6 @@ Column = Window → Float
 
 abbrev pub columns : List Column
 columns = (λ (w : Window). w .start) ∷ (λ (w : Window). w .end) ∷ []
-
--- finite, with the sign bit clear
-abbrev pub isPlain : Float → Bool
-isPlain nan = false
-isPlain (inf s) = false
-isPlain (fin s m e) = not s
 
 -- 7 start, 7 end: not finite, or sign bit set (-0 too)
 abbrev pub floatChecks : List Column → Window → List Check

@@ -7,7 +7,7 @@ use lib.Dec.{ltb}
 use Rattle.lexical_util.specs.Answer.{done, andThen}
 use Rattle.lexical_format.specs.declared.format.NumberFormat.{NumberFormat}
 use Rattle.lexical_format.specs.declared.options.Options.{Options}
-use Rattle.lexical_format.specs.Format.{badBytes, badCounts, badBreaks, given, settled, writingFormat, checkedFormat}
+use Rattle.lexical_format.specs.Format.{badBytes, badCounts, badBreaks, given, settled, writingFormat, checkedFormat, mostCount}
 use Rattle.outage_spec.specs.Calls.{sheetFormat}
 
 -- ---- options that differ in the digit limit
@@ -30,7 +30,7 @@ counts-none o e = rw (e, or-false)
 
 pub counts-some : (o : Options) → (o .«max_significant_digits» ≡ 0 → ⊥) → badCounts (limitedTo 1201 o) ≡ (badCounts o || given (o .«max_significant_digits»))
 unfolding badCounts
-counts-some o h = or-true (ltb 1200 (o .«min_significant_digits»)) ∙ sym (or-true (badCounts o)) ∙ ap (λ (b : Bool). badCounts o || not b) (sym (ne-eqb (o .«max_significant_digits») 0 h))
+counts-some o h = or-true (ltb mostCount (o .«min_significant_digits»)) ∙ sym (or-true (badCounts o)) ∙ ap (λ (b : Bool). badCounts o || not b) (sym (ne-eqb (o .«max_significant_digits») 0 h))
 
 pub checked-limited : (F : NumberFormat) (o : Options) (limit : ℕ) → badCounts (limitedTo limit o) ≡ (badCounts o || given (o .«max_significant_digits»))
     → checkedFormat F (limitedTo limit o) ≡ andThen (sheetFormat F o) (λ row. done (settled o row))

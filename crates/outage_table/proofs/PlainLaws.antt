@@ -9,7 +9,7 @@ use lib.Ieee.Scale.{finite}
 use Rattle.lexical_exponent.proofs.DifferenceLaws.{by-larger}
 use Rattle.lexical_float.specs.Encoding.{bitsOf}
 use Rattle.lexical_float.proofs.PartsLaws.{bits-value, special-bits, special-value, split-bits}
-use Rattle.outage_spec.specs.Window.{isPlain}
+use Rattle.lexical_float.specs.Parts.{isPlain}
 use Rattle.outage_spec.proofs.TableLaws.{value-plain}
 
 special-plain : (x : Float) → T (not (finite x)) → isPlain x ≡ false

@@ -21,7 +21,7 @@ use Rattle.lexical_format.specs.Format.{settled}
 use Rattle.lexical_write_float.specs.Code.{Puts}
 use Rattle.lexical_write_float.proofs.PutLaws.{puts-more, put-front}
 use Rattle.outage_spec.specs.declared.window.Window.{Window}
-use Rattle.outage_spec.specs.Table.{tableCount, rowsFrom, tableWindows}
+use Rattle.outage_spec.specs.Table.{tableCount, rowsFrom, tableWindows, mostWindows}
 use Rattle.outage_spec.specs.Sheet.{rowsText, sheetOf}
 use Rattle.outage_spec.specs.Calls.{sheetFormat, tableSheet, LongestSheet, WayBack}
 use Rattle.outage_spec.proofs.WordLaws.{AreBytes}
@@ -31,6 +31,7 @@ use Rattle.outage_spec.proofs.TableLaws.{none-left, split, rows-count, rows-sou
 use Rattle.outage_spec.proofs.WayBackLaws.{way-back}
 use Rattle.outage_table.specs.Text.{contents, rowOf, rowsOf, HasTexts, Admitted}
 use Rattle.outage_table.proofs.RowsLaws.{row-texts}
+use Rattle.lexical_write_float_spec.specs.Write.{longestText}
 
 module _ (F : NumberFormat) (o : Options) where
   -- ---- what measuring the rows says
@@ -66,7 +67,7 @@ module _ (F : NumberFormat) (o : Options) where
         rw (s .is-all) (rows-text (s .first) (s .others) (row-texts F o A t n i (s .first) (s .is-first)) (rows-are k (suc i) (s .others) (s .is-others)))
 
     -- two texts of at most 2,275 bytes, a space and an LF for each row
-    pub rows-most : rowsFrom t n 0 n ≡ done (contents (rowsFrom t n 0 n)) → length (rowsOf F o (contents (rowsFrom t n 0 n))) ≤ 4552 * n
+    pub rows-most : rowsFrom t n 0 n ≡ done (contents (rowsFrom t n 0 n)) → length (rowsOf F o (contents (rowsFrom t n 0 n))) ≤ (2 * (longestText + 1)) * n
     rows-most f =
         let ws = contents (rowsFrom t n 0 n) in
         rw (rows-count t n 0 n ws f) at (rows-short F o (A .0) (taken F o (A .0) (A .1)) ws (rows-sound t n 0 n ws f) (rowsOf F o ws) (rows-are n 0 ws f))
@@ -90,11 +91,11 @@ module _ (F : NumberFormat) (o : Options) where
   windows-refused t n r p e f = rw (e, f)
 
 -- ---- the count's digits
-pub count-digits : (n : ℕ) → n ≤ 400 → (digitCount n 10 ≡ length (numeral 10 n)) × (length (numeral 10 n) ≤ 3)
+pub count-digits : (n : ℕ) → n ≤ mostWindows → (digitCount n 10 ≡ length (numeral 10 n)) × (length (numeral 10 n) ≤ 3)
 count-digits n h = (count-decimal n ∙ sym (length-numeral 10 n), omega (arith, length-numeral 10 n, count-le 10 (omega arith) 2 n (omega arith)))
 
 -- ---- room that is enough for any n rows is enough for these
-pub room-known : (F : NumberFormat) (o : Options) → Admitted F o → (t : List ℕ) (n room : ℕ) → n ≤ 400 → rowsFrom t n 0 n ≡ done (contents (rowsFrom t n 0 n)) → 4 + 4552 * n ≤ room
+pub room-known : (F : NumberFormat) (o : Options) → Admitted F o → (t : List ℕ) (n room : ℕ) → n ≤ mostWindows → rowsFrom t n 0 n ≡ done (contents (rowsFrom t n 0 n)) → 4 + (2 * (longestText + 1)) * n ≤ room
     → true ≡ leb (length (numeral 10 n) + 1 + length (rowsOf F o (contents (rowsFrom t n 0 n)))) room
 room-known F o A t n room few f h =
     let k : length (numeral 10 n) + 1 + length (rowsOf F o (contents (rowsFrom t n 0 n))) ≤ room = omega (arith, count-digits n few .1, rows-most F o A t n f) in

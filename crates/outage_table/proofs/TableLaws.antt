@@ -13,8 +13,9 @@ use Rattle.lexical_util.specs.Answer.{Answer, done, refused}
 use Rattle.lexical_util.proofs.AnswerLaws.{refused-done}
 use Rattle.outage_spec.specs.declared.window.Window.{Window}
 use Rattle.outage_spec.specs.Words.{wordAt}
-use Rattle.outage_spec.specs.Window.{isPlain, judged, from}
-use Rattle.outage_spec.specs.Table.{tableSize, tableCount, rowAt}
+use Rattle.lexical_float.specs.Parts.{isPlain}
+use Rattle.outage_spec.specs.Window.{judged, from}
+use Rattle.outage_spec.specs.Table.{tableSize, tableCount, rowAt, mostWindows}
 use Rattle.outage_table.proofs.PlainLaws.{below-plain, above-plain}
 
 -- ---- the header
@@ -23,22 +24,22 @@ unfolding tableCount
 count-short t h = rw (lt-ltb (length t) 8 h)
 
 module _ (t : List ℕ) (n : ℕ) (e : n ≡ wordAt 4 t 0) (h : 8 ≤ length t) where
-  pub count-many : 400 < n → refused 13 0 ≡ tableCount t
+  pub count-many : mostWindows < n → refused 13 0 ≡ tableCount t
   unfolding tableCount
-  count-many k = rw (le-ltb (length t) 8 h, ← e, lt-ltb 400 n k)
+  count-many k = rw (le-ltb (length t) 8 h, ← e, lt-ltb mostWindows n k)
 
-  module _ (m : ℕ) (f : m ≡ wordAt 4 t 4) (k : n ≤ 400) where
+  module _ (m : ℕ) (f : m ≡ wordAt 4 t 4) (k : n ≤ mostWindows) where
     pub count-field : (m ≡ tableSize n → ⊥) → refused 13 0 ≡ tableCount t
     unfolding tableCount
-    count-field d = rw (le-ltb (length t) 8 h, ← e, le-ltb 400 n k, ← f, ne-eqb m (tableSize n) d)
+    count-field d = rw (le-ltb (length t) 8 h, ← e, le-ltb mostWindows n k, ← f, ne-eqb m (tableSize n) d)
 
     pub count-lent : m ≡ tableSize n → (length t ≡ tableSize n → ⊥) → refused 13 0 ≡ tableCount t
     unfolding tableCount
-    count-lent d g = rw (le-ltb (length t) 8 h, ← e, le-ltb 400 n k, ← f, eq-eqb m (tableSize n) d, ne-eqb (length t) (tableSize n) g)
+    count-lent d g = rw (le-ltb (length t) 8 h, ← e, le-ltb mostWindows n k, ← f, eq-eqb m (tableSize n) d, ne-eqb (length t) (tableSize n) g)
 
     pub count-is : m ≡ tableSize n → length t ≡ tableSize n → done n ≡ tableCount t
     unfolding tableCount
-    count-is d g = rw (le-ltb (length t) 8 h, ← e, le-ltb 400 n k, ← f, eq-eqb m (tableSize n) d, eq-eqb (length t) (tableSize n) g)
+    count-is d g = rw (le-ltb (length t) 8 h, ← e, le-ltb mostWindows n k, ← f, eq-eqb m (tableSize n) d, eq-eqb (length t) (tableSize n) g)
 
 -- ---- a row by the bits of its floats
 -- a checked window's refusal has place 0

@@ -13,12 +13,12 @@ use Rattle.lexical_format.specs.declared.format.NumberFormat.{NumberFormat}
 use Rattle.lexical_format.specs.declared.format.Pair.{Pair}
 use Rattle.lexical_format.specs.declared.options.Options.{Options}
 use Rattle.lexical_format.specs.Format.{writingFormat}
-use Rattle.lexical_write_float_spec.specs.Write.{writeText}
+use Rattle.lexical_write_float_spec.specs.Write.{writeText, longestText}
 use Rattle.lexical_write_float_spec.proofs.WriteLaws.{longest-text}
 use Rattle.lexical_write_float.specs.Code.{Puts}
 use Rattle.lexical_write_float.proofs.PutLaws.{puts-more}
 use Rattle.outage_spec.specs.declared.window.Window.{Window}
-use Rattle.outage_spec.specs.Window.{isPlain}
+use Rattle.lexical_float.specs.Parts.{isPlain}
 use Rattle.outage_spec.proofs.TextLaws.{plain-text}
 use Rattle.outage_table.specs.Text.{textOf, rowOf, HasText}
 
@@ -28,7 +28,7 @@ module _ (F : NumberFormat) (o : Options) where
   unfolding textOf
   has-text row w x p = rw (plain-text F o row w x p .1)
 
-  pub text-short : (x : Float) → T (fits binary64 x) → HasText F o x → length (textOf F o x) ≤ 2275
+  pub text-short : (x : Float) → T (fits binary64 x) → HasText F o x → length (textOf F o x) ≤ longestText
   text-short x h e = longest-text binary64 F o x (textOf F o x) h e
 
   -- ---- what the writer answers where a text has room

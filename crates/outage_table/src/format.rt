@@ -3,11 +3,15 @@ ghost use mathlib.Core.Path.{_≡_};
 ghost use Rattle.lexical_util.specs.Answer.{done, andThen};
 ghost use Rattle.lexical_format.specs.Format.{settled, ofWritingCheck};
 ghost use Rattle.outage_spec.specs.Calls.{sheetFormat};
+use lexical_format::MOST_COUNT;
 use lexical_format::NumberFormat;
 use lexical_format::Options;
 use lexical_format::WritingCheck;
 
-// A count that 5 refuses stands for any digit limit.
+// A count that 5 refuses.
+const REFUSED: u32 = MOST_COUNT + 1;
+
+// That count stands for any digit limit.
 pub(crate) fn check_format(format: NumberFormat, options: Options) -> WritingCheck
     ensures { λ r. ⌜ ofWritingCheck r ≡ andThen (sheetFormat format options) (λ row. done (settled options row)) ⌝ }
 {
@@ -15,7 +19,7 @@ pub(crate) fn check_format(format: NumberFormat, options: Options) -> WritingChe
     let limit = if options.max_significant_digits == 0 {
         0
     } else {
-        1201
+        REFUSED
     };
     let unlimited = Options {
         max_significant_digits: limit,

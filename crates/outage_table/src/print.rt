@@ -1,28 +1,33 @@
 // A row of the sheet: start, space, end, LF.
 ghost use mathlib.Core.Path.{_≡_};
 ghost use mathlib.Core.List.{_∷_, [], _++_};
-ghost use Prim.Native.Nat.{_+_, _≤_, _<_};
+ghost use Prim.Native.Nat.{_+_, _≤_, _<_, _*_};
 ghost use lib.ListN.{length};
 ghost use Rattle.lexical_write_integer_spec.specs.Digits.{numeral};
 ghost use Rattle.lexical_write_float.specs.Code.{Puts};
 ghost use Rattle.outage_table.specs.Text.{textOf, rowOf, HasText, HasTexts};
+ghost use Rattle.lexical_write_float_spec.specs.Write.{longestText};
 use lexical_format::NumberFormat;
 use lexical_format::Options;
 use lexical_util::Written;
+use lexical_write_float::LONGEST_TEXT;
 use lexical_write_float::write_f64;
 use outage_spec::Window;
 
 // The length of a float's text. It is written into scratch bytes, which have room for every text.
 fn text_length(x: f64, format: NumberFormat, options: Options, scratch: &mut [u8]) -> usize
-    requires { ⌜ (length (now scratch) ≡ 2275) × HasText format options x ⌝ }
-    ensures { λ r. ⌜ (r ≡ length (textOf format options x)) × (r ≤ 2275) ⌝ }
-    ensures { λ _. ⌜ length (now (scratch .exit)) ≡ 2275 ⌝ }
+    requires { ⌜ (length (now scratch) ≡ longestText) × HasText format options x ⌝ }
+    ensures { λ r. ⌜ (r ≡ length (textOf format options x)) × (r ≤ longestText) ⌝ }
+    ensures { λ _. ⌜ length (now (scratch .exit)) ≡ longestText ⌝ }
 {
     match write_f64(x, format, options, scratch) {
         Written::Length(count) => count,
         Written::Refused(_) => 0,
     }
 }
+
+// The longest row: two texts, a space and an LF.
+pub(crate) const LONGEST_ROW: usize = 2 * (LONGEST_TEXT + 1);
 
 // The length of a row.
 pub(crate) fn row_length(
@@ -31,9 +36,9 @@ pub(crate) fn row_length(
     options: Options,
     scratch: &mut [u8],
 ) -> usize
-    requires { ⌜ (length (now scratch) ≡ 2275) × HasTexts format options window ⌝ }
-    ensures { λ r. ⌜ (r ≡ length (rowOf format options window)) × (r ≤ 4552) ⌝ }
-    ensures { λ _. ⌜ length (now (scratch .exit)) ≡ 2275 ⌝ }
+    requires { ⌜ (length (now scratch) ≡ longestText) × HasTexts format options window ⌝ }
+    ensures { λ r. ⌜ (r ≡ length (rowOf format options window)) × (r ≤ 2 * (longestText + 1)) ⌝ }
+    ensures { λ _. ⌜ length (now (scratch .exit)) ≡ longestText ⌝ }
 {
     let start = text_length(window.start, format, options, scratch);
     let end = text_length(window.end, format, options, scratch);

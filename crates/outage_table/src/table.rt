@@ -3,12 +3,23 @@ ghost use mathlib.Core.Path.{_≡_};
 ghost use Prim.Native.Nat.{_≤_, _<_};
 ghost use lib.ListN.{length};
 ghost use Rattle.outage.specs.Answer.{ofCheckedWindow};
-ghost use Rattle.outage_spec.specs.Table.{tableSize, tableCount, rowAt, rowsFrom};
+ghost use Rattle.outage_spec.specs.Table.{tableSize, tableCount, rowAt, rowsFrom, mostWindows};
 ghost use Rattle.outage_table.specs.Count.{ofCount, AreRows};
 use crate::word::word_at;
 use lexical_util::Refusal;
 use outage::CheckedWindow;
+use outage::FLOAT_SIZE;
+use outage::HEADER_SIZE;
+use outage::MOST_WINDOWS;
+use outage::ROW_SIZE;
 use outage_spec::Window;
+
+// The sizes as wide as the numbers in a table's bytes.
+const MOST: u64 = MOST_WINDOWS as u64;
+
+const HEADER: u64 = HEADER_SIZE as u64;
+
+const ROW: u64 = ROW_SIZE as u64;
 
 // The count of a table's rows, or 13.
 pub(crate) enum Count {
@@ -26,17 +37,17 @@ pub(crate) enum Rows {
 pub(crate) fn table_count(table: &[u8]) -> Count
     ensures { λ r. ⌜ ofCount r ≡ tableCount (now (table .entry)) ⌝ }
 {
-    if table.len() < 8 {
+    if table.len() < HEADER_SIZE {
         return Count::Wrong;
     }
     let n = word_at(table, 0, 4);
-    if n > 400 {
+    if n > MOST {
         return Count::Wrong;
     }
-    if word_at(table, 4, 4) != 8 + 16 * n {
+    if word_at(table, 4, 4) != HEADER + ROW * n {
         return Count::Wrong;
     }
-    if table.len() as u64 != 8 + 16 * n {
+    if table.len() as u64 != HEADER + ROW * n {
         return Count::Wrong;
     }
     Count::Rows(n as usize)
@@ -44,17 +55,21 @@ pub(crate) fn table_count(table: &[u8]) -> Count
 
 // Row i of n. Infinities, NaNs and set sign bits are the patterns from the infinity's on: 7 is decided before a float is made of the bits.
 pub(crate) fn row_at(table: &[u8], n: usize, i: usize) -> CheckedWindow
-    requires { ⌜ (i < n) × (n ≤ 400) × (length (now table) ≡ tableSize n) ⌝ }
+    requires { ⌜ (i < n) × (n ≤ mostWindows) × (length (now table) ≡ tableSize n) ⌝ }
     ensures { λ r. ⌜ ofCheckedWindow r ≡ rowAt (now (table .entry)) n i ⌝ }
 {
-    let start = word_at(table, 8 + 8 * i, 8);
+    let start = word_at(table, HEADER_SIZE + FLOAT_SIZE * i, FLOAT_SIZE);
     if start >= 0x7ff0_0000_0000_0000 {
         return CheckedWindow::Refused(Refusal {
             number: 7,
             place: i,
         });
     }
-    let end = word_at(table, 8 + 8 * n + 8 * i, 8);
+    let end = word_at(
+        table,
+        HEADER_SIZE + FLOAT_SIZE * n + FLOAT_SIZE * i,
+        FLOAT_SIZE,
+    );
     if end >= 0x7ff0_0000_0000_0000 {
         return CheckedWindow::Refused(Refusal {
             number: 7,
@@ -76,7 +91,7 @@ pub(crate) fn row_at(table: &[u8], n: usize, i: usize) -> CheckedWindow
 
 // Every row, one after the other.
 pub(crate) fn check_rows(table: &[u8], n: usize) -> Rows
-    requires { ⌜ (n ≤ 400) × (length (now table) ≡ tableSize n) ⌝ }
+    requires { ⌜ (n ≤ mostWindows) × (length (now table) ≡ tableSize n) ⌝ }
     ensures { λ r. ⌜ AreRows r (rowsFrom (now (table .entry)) n 0 n) ⌝ }
 {
     let mut i: usize = 0;

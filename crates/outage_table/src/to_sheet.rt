@@ -1,17 +1,19 @@
 // Table to sheet: every row is checked, and the sheet is known to have room, before its first byte is written.
 ghost use mathlib.Core.Path.{_≡_};
 ghost use mathlib.Core.List.{_∷_, _++_};
-ghost use Prim.Native.Nat.{ℕ, _+_, _≤_};
+ghost use Prim.Native.Nat.{ℕ, _+_, _≤_, _*_};
 ghost use lib.Dec.{leb};
 ghost use lib.ListN.{length};
 ghost use Rattle.lexical_util.specs.Answer.{done, andThen, written, held, ofWritten};
 ghost use Rattle.lexical_write_integer_spec.specs.Digits.{numeral};
 ghost use Rattle.lexical_write_float.specs.Code.{Puts};
-ghost use Rattle.outage_spec.specs.Table.{tableSize, rowsFrom, tableWindows};
+ghost use Rattle.outage_spec.specs.Table.{tableSize, rowsFrom, tableWindows, mostWindows};
 ghost use Rattle.outage_spec.specs.Sheet.{sheetOf};
 ghost use Rattle.outage_spec.specs.Calls.{tableSheet, LongestSheet, WayBack};
 ghost use Rattle.outage_table.specs.Text.{contents, rowsOf, Admitted};
+ghost use Rattle.lexical_write_float_spec.specs.Write.{longestText};
 use crate::format::check_format;
+use crate::print::LONGEST_ROW;
 use crate::print::put_count;
 use crate::print::put_row;
 use crate::print::row_length;
@@ -25,16 +27,24 @@ use lexical_format::Options;
 use lexical_format::WritingCheck;
 use lexical_util::Refusal;
 use lexical_util::Written;
+use lexical_write_float::LONGEST_TEXT;
 use lexical_write_integer::digit_count;
 use outage::CheckedWindow;
+use outage::MOST_WINDOWS;
+
+// The longest count line: a number of three digits, and LF.
+const COUNT_LINE: usize = 4;
+
+// No sheet is longer.
+pub const LONGEST_SHEET: usize = COUNT_LINE + LONGEST_ROW * MOST_WINDOWS;
 
 // The length of all rows, where they pass.
 fn rows_length(table: &[u8], n: usize, format: NumberFormat, options: Options) -> Written
-    requires { ⌜ Admitted format options × (n ≤ 400) × (length (now table) ≡ tableSize n) ⌝ }
+    requires { ⌜ Admitted format options × (n ≤ mostWindows) × (length (now table) ≡ tableSize n) ⌝ }
     ensures { λ r. ⌜ ofWritten r ≡ andThen (rowsFrom (now (table .entry)) n 0 n) (λ ws. done (length (rowsOf format options ws))) ⌝ }
-    ensures few { λ r. ⌜ ((m : ℕ) → ofWritten r ≡ done m → m ≤ 1820800) ⌝ }
+    ensures few { λ r. ⌜ ((m : ℕ) → ofWritten r ≡ done m → m ≤ mostWindows * (2 * (longestText + 1))) ⌝ }
 {
-    let mut scratch = [0u8; 2275];
+    let mut scratch = [0u8; LONGEST_TEXT];
     let mut sum: usize = 0;
     let mut i: usize = 0;
     while i < n {
@@ -58,7 +68,7 @@ fn put_rows(
     format: NumberFormat,
     options: Options,
 ) -> usize
-    requires { ⌜ Admitted format options × (n ≤ 400) × (length (now table) ≡ tableSize n)
+    requires { ⌜ Admitted format options × (n ≤ mostWindows) × (length (now table) ≡ tableSize n)
         × (rowsFrom (now table) n 0 n ≡ done (contents (rowsFrom (now table) n 0 n)))
         × (from + length (rowsOf format options (contents (rowsFrom (now table) n 0 n))) ≤ length (now sheet)) ⌝ }
     ensures { λ r. ⌜ Puts (now (sheet .entry)) from (rowsOf format options (contents (rowsFrom (now (table .entry)) n 0 n))) r (now (sheet .exit)) ⌝ }
@@ -85,11 +95,11 @@ fn sheet_has_room(
     format: NumberFormat,
     options: Options,
 ) -> bool
-    requires { ⌜ Admitted format options × (n ≤ 400) × (length (now table) ≡ tableSize n)
+    requires { ⌜ Admitted format options × (n ≤ mostWindows) × (length (now table) ≡ tableSize n)
         × (rowsFrom (now table) n 0 n ≡ done (contents (rowsFrom (now table) n 0 n))) ⌝ }
     ensures { λ r. ⌜ r ≡ leb (length (numeral 10 n) + 1 + length (rowsOf format options (contents (rowsFrom (now (table .entry)) n 0 n)))) room ⌝ }
 {
-    if room >= 4 + 4552 * n {
+    if room >= COUNT_LINE + LONGEST_ROW * n {
         return true;
     }
     match rows_length(table, n, format, options) {
@@ -106,7 +116,7 @@ fn put_sheet(
     format: NumberFormat,
     options: Options,
 ) -> Written
-    requires { ⌜ Admitted format options × (n ≤ 400) × (length (now table) ≡ tableSize n)
+    requires { ⌜ Admitted format options × (n ≤ mostWindows) × (length (now table) ≡ tableSize n)
         × (rowsFrom (now table) n 0 n ≡ done (contents (rowsFrom (now table) n 0 n))) ⌝ }
     ensures { λ r. ⌜ ofWritten r ≡ written (done (numeral 10 n ++ (10 ∷ rowsOf format options (contents (rowsFrom (now (table .entry)) n 0 n))))) (now (sheet .entry)) ⌝ }
     ensures { λ _. ⌜ now (sheet .exit) ≡ held (done (numeral 10 n ++ (10 ∷ rowsOf format options (contents (rowsFrom (now (table .entry)) n 0 n))))) (now (sheet .entry)) ⌝ }

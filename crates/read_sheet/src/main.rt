@@ -6,19 +6,23 @@ use libc::STDERR_FILENO;
 use libc::STDIN_FILENO;
 use libc::STDOUT_FILENO;
 use outage_console::Argument;
+use outage_console::LONGEST_SHEET_READ;
 use outage_console::read_format;
 
-// All of standard input, up to the longest sheet that is read and one byte more, so that a longer input is seen.
-fn read(sheet: &mut [u8; 3277605]) -> usize
+// The longest sheet that is read, and one byte more, so that a longer input is seen.
+const ROOM: usize = LONGEST_SHEET_READ + 1;
+
+// All of standard input, as far as there is room.
+fn read(sheet: &mut [u8; ROOM]) -> usize
     ensures { λ r. ⌜ r ≤ length (now (sheet .exit)) ⌝ }
 {
     io::read_full(STDIN_FILENO, sheet)
 }
 
 fn run(format: TextFormat) {
-    let mut sheet = [0u8; 3277605];
+    let mut sheet = [0u8; ROOM];
     let n = read(&mut sheet);
-    let mut out = [0u8; 6408];
+    let mut out = [0u8; outage::LONGEST_TABLE];
     let shown = outage_console::read_sheet(&sheet[0..n], format, &mut out);
     io::write_all(STDOUT_FILENO, &out[0..shown]);
 }

@@ -2,18 +2,20 @@
 ghost use Prim.Native.Nat.{_<_};
 use crate::floats;
 use crate::formats;
+use crate::formats::TWO_RECORDS;
 use crate::print;
+use lexical_rewrite::RECORD_SIZE;
 use lexical_rewrite::chain_f64;
 use lexical_rewrite_spec::TextFormat;
 
 // Records of 100,000 stations.
-const LONG: usize = 1_900_000;
+const LONG: usize = 100_000 * RECORD_SIZE;
 
 fn space() -> [u8; LONG] {
     [0; LONG]
 }
 
-fn at(pattern: &[u8; 38], i: usize) -> u8
+fn at(pattern: &[u8; TWO_RECORDS], i: usize) -> u8
     requires { ⌜ i < 38 ⌝ }
 {
     pattern[i]
@@ -24,7 +26,7 @@ fn fill(records: &mut [u8]) {
     let pattern = formats::RECORDS;
     let mut i = 0;
     while i < records.len() {
-        records[i] = at(&pattern, i % 38);
+        records[i] = at(&pattern, i % TWO_RECORDS);
         i += 1;
     }
 }
@@ -97,14 +99,14 @@ pub(crate) fn run() {
         b"a record cut off before its mark",
         b"1.8p0",
         first,
-        &records[0..18],
+        &records[0..RECORD_SIZE - 1],
         &mut out,
     );
     refused(
         b"a buffer a byte too short",
         b"1.8p0",
         first,
-        &records[0..19],
+        &records[0..RECORD_SIZE],
         &mut out[0..2],
     );
 }

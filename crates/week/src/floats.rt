@@ -6,13 +6,15 @@ use lexical_read_float::ReadF64;
 use lexical_read_float::read_f32;
 use lexical_read_float::read_f64;
 use lexical_rewrite::Chained;
+use lexical_rewrite::RECORD_SIZE;
 use lexical_rewrite::chain_f32;
 use lexical_rewrite::chain_f64;
 use lexical_util::Written;
+use lexical_write_float::LONGEST_TEXT;
 use lexical_write_float::write_f32;
 use lexical_write_float::write_f64;
 
-const ROOM: usize = 2275;
+const ROOM: usize = LONGEST_TEXT;
 
 pub(crate) fn room() -> [u8; ROOM] {
     [0; ROOM]
@@ -75,7 +77,13 @@ fn stations_f64(text: &[u8]) {
     let records = formats::RECORDS;
     let mut out = room();
     let first = formats::wednesday();
-    let answer = chain_f64(text, formats::tuesday(), first, &records[0..19], &mut out);
+    let answer = chain_f64(
+        text,
+        formats::tuesday(),
+        first,
+        &records[0..RECORD_SIZE],
+        &mut out,
+    );
     arrived_f64(answer, &out);
 }
 
@@ -120,7 +128,13 @@ fn stations_f32(text: &[u8]) {
     let records = formats::RECORDS;
     let mut out = room();
     let first = formats::wednesday();
-    let answer = chain_f32(text, formats::tuesday(), first, &records[0..19], &mut out);
+    let answer = chain_f32(
+        text,
+        formats::tuesday(),
+        first,
+        &records[0..RECORD_SIZE],
+        &mut out,
+    );
     arrived_f32(answer, &out);
 }
 

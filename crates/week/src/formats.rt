@@ -2,6 +2,7 @@
 use lexical_format::NumberFormat;
 use lexical_format::Options;
 use lexical_format::RoundMode;
+use lexical_rewrite::RECORD_SIZE;
 use lexical_rewrite_spec::TextFormat;
 
 // Exponent radix 10, point ".", all else default.
@@ -49,8 +50,10 @@ pub(crate) fn limited(most: u32) -> TextFormat {
     text_format(32, 32, b'^', false, most)
 }
 
+pub(crate) const TWO_RECORDS: usize = 2 * RECORD_SIZE;
+
 // Thursday's format as a station's record, then Wednesday's.
-pub(crate) const RECORDS: [u8; 38] = [
+pub(crate) const RECORDS: [u8; TWO_RECORDS] = [
     2,
     2,
     10,

@@ -5,15 +5,15 @@ use mathlib.Core.Logic.{⊎-elim}
 use native.Mathlib.Omega.{arith}
 use borrow.Author.Tests.{lt-ltb, le-ltb, eq-eqb, ne-eqb}
 use lib.Dec.{ltb}
-use Rattle.lexical_format.specs.Format.{given, badCounts}
+use Rattle.lexical_format.specs.Format.{given, badCounts, mostCount}
 use Rattle.lexical_format.proofs.checks.bad_counts.Statement.{statement}
 use Rattle.lexical_format.proofs.checks.bad_counts.Tie as tie
 
 -- whether either is too large
-either : (c : tie.Joined1) → c .if1 .if2 ≡ (ltb 1200 (c .before .args .options .«min_significant_digits») || ltb 1200 (c .before .args .options .«max_significant_digits»))
+either : (c : tie.Joined1) → c .if1 .if2 ≡ (ltb mostCount (c .before .args .options .«min_significant_digits») || ltb mostCount (c .before .args .options .«max_significant_digits»))
 either c =
     let least = c .before .args .options .«min_significant_digits» in
-    ⊎-elim (λ w. let t = lt-ltb 1200 least (omega arith) in rw t (w .1 ∙ t)) (λ w. rw (le-ltb 1200 least (omega arith)) (w .1)) (c .if1 .came)
+    ⊎-elim (λ w. let t = lt-ltb mostCount least (omega arith) in rw t (w .1 ∙ t)) (λ w. rw (le-ltb mostCount least (omega arith)) (w .1)) (c .if1 .came)
 
 -- whether both are given
 both : (c : tie.Joined3)

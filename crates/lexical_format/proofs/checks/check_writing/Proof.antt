@@ -3,8 +3,8 @@ use mathlib.Core.Path.{_≡_, sym, ap, _∙_}
 use mathlib.Core.Bool.{false, _&&_}
 use mathlib.Core.Logic.{⊎-elim}
 use borrow.Author.Needs.{needs}
-use lib.IntN.{pos, negsuc}
-use Rattle.lexical_format.specs.Format.{orAbsent, lowBreak, highBreak, outside, badBreaks}
+use lib.IntN.{pos, negsuc, negℤ}
+use Rattle.lexical_format.specs.Format.{farthestBreak, orAbsent, lowBreak, highBreak, outside, badBreaks}
 use Rattle.lexical_exponent.proofs.DifferenceLaws.{read-back}
 use Rattle.lexical_format.proofs.checks.check_writing.Statement.{statement}
 use Rattle.lexical_format.proofs.checks.check_writing.Tie as tie
@@ -25,12 +25,12 @@ high c =
     c .or-absent2 .ensures ∙ ap (orAbsent (pos 9)) (read-back z (c .before .struct-told2 .given .1 .1 .0 .1))
 
 low-out : (c : tie.After-outside)
-    → c .outside .result ≡ outside (negsuc 1999) (negsuc 0) (lowBreak (c .before .before .before .before .before .before .before .before .args .options))
-low-out c = c .outside .ensures ∙ ap (outside (negsuc 1999) (negsuc 0)) (low (c .before .before .before))
+    → c .outside .result ≡ outside (negℤ (pos farthestBreak)) (negsuc 0) (lowBreak (c .before .before .before .before .before .before .before .before .args .options))
+low-out c = c .outside .ensures ∙ ap (outside (negℤ (pos farthestBreak)) (negsuc 0)) (low (c .before .before .before))
 
 high-out : (c : tie.After-outside2)
-    → c .outside2 .result ≡ outside (pos 1) (pos 2000) (highBreak (c .before .before .before .before .before .before .before .before .before .before .args .options))
-high-out c = c .outside2 .ensures ∙ ap (outside (pos 1) (pos 2000)) (high (c .before .before .before))
+    → c .outside2 .result ≡ outside (pos 1) (pos farthestBreak) (highBreak (c .before .before .before .before .before .before .before .before .before .before .args .options))
+high-out c = c .outside2 .ensures ∙ ap (outside (pos 1) (pos farthestBreak)) (high (c .before .before .before))
 
 returns : tie.Need-returns
 returns c = rw (c .before .if1 .taken, c .if2 .taken)

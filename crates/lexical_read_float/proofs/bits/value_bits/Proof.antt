@@ -13,31 +13,32 @@ use Rattle.lexical_read_float.specs.Bits.{powersOf}
 use Rattle.lexical_read_float.proofs.BitsLaws.{refused-ten, value-scaled, kept-holds}
 use Rattle.lexical_read_float.proofs.bits.value_bits.Statement.{statement}
 use Rattle.lexical_read_float.proofs.bits.value_bits.Tie as tie
+use Rattle.lexical_read_float_spec.specs.Read.{longestRead, greatestExponent}
 
 abbrev start : tie.Else1 → tie.Start
 start c = c .before .before .before .before .before .before
 
-few : (c : tie.Else1) → let a = start c .args in a .row .b * natAbs (a .number .fraction .0) ≤ 20480
+few : (c : tie.Else1) → let a = start c .args in a .row .b * natAbs (a .number .fraction .0) ≤ 5 * longestRead
 few c = let s = start c in mul-le-mul (s .pre .2) (s .pre .0 .few-digits)
 
-small : (c : tie.Else1) → let a = start c .args in a .row .c * a .number .exponent .power .1 ≤ 163835
+small : (c : tie.Else1) → let a = start c .args in a .row .c * a .number .exponent .power .1 ≤ 5 * greatestExponent
 small c = mul-le-mul (start c .pre .3) (c .if1 .left)
 
 -- how far the two exponents are from 0, in bits
-places-few : (c : tie.After-powers-in-bits) → heightAbove (c .before .digits-in-bits .result .0) (pos 0) ≤ 20480
+places-few : (c : tie.After-powers-in-bits) → heightAbove (c .before .digits-in-bits .result .0) (pos 0) ≤ 5 * longestRead
 places-few c =
     let e = c .before .before in
     let a = start e .args in
     rw (c .before .digits-in-bits .ensures) (le-trans (height-few (a .row .b) (a .number .fraction .0) .0) (few e))
 
-power-few : (c : tie.After-powers-in-bits) → (heightAbove (c .powers-in-bits .result .0) (pos 0) ≤ 163835) × (heightAbove (pos 0) (c .powers-in-bits .result .0) ≤ 163835)
+power-few : (c : tie.After-powers-in-bits) → (heightAbove (c .powers-in-bits .result .0) (pos 0) ≤ 5 * greatestExponent) × (heightAbove (pos 0) (c .powers-in-bits .result .0) ≤ 5 * greatestExponent)
 power-few c =
     let e = c .before .before in
     let a = start e .args in
     let w = signed-few (a .number .exponent .power .0) (a .row .c) (a .number .exponent .power .1) in
     rw (c .powers-in-bits .ensures) (le-trans (w .0) (small e), le-trans (w .1) (small e))
 
-up-few : (c : tie.After-powers-of) → c .powers-of .result .up ≤ 163835
+up-few : (c : tie.After-powers-of) → c .powers-of .result .up ≤ 5 * greatestExponent
 up-few c = rw (ap (λ (x : Powers). x .up) (c .powers-of .ensures)) (power-few (c .before) .0)
 
 down-is : (c : tie.After-powers-of) → let b = c .before in c .powers-of .result .down ≡ heightAbove (b .before .digits-in-bits .result .0) (pos 0) + heightAbove (pos 0) (b .powers-in-bits .result .0)

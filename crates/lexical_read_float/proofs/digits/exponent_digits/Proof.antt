@@ -11,11 +11,12 @@ use Rattle.lexical_read_float.proofs.DigitRunLaws.{digit-below, digit-a
 use Rattle.lexical_read_float.specs.Digits.{digitsFrom, endFrom}
 use Rattle.lexical_read_float.proofs.digits.exponent_digits.Tie as tie
 use Rattle.lexical_read_float.proofs.digits.exponent_digits.Statement.{statement}
+use Rattle.lexical_read_float.specs.Scan.{tooGreat}
 
 abbrev Inv-loop : tie.InvT-loop
 Inv-loop text from radix magnitude₀ i₀ magnitude i =
-    (i ≤ length text) × (magnitude ≤ 32768) × (endFrom radix text i ≡ endFrom radix text from)
-    × (min (readOn radix magnitude (digitsFrom radix text i)) 32768 ≡ min (digitsValue radix (digitsFrom radix text from)) 32768)
+    (i ≤ length text) × (magnitude ≤ tooGreat) × (endFrom radix text i ≡ endFrom radix text from)
+    × (min (readOn radix magnitude (digitsFrom radix text i)) tooGreat ≡ min (digitsValue radix (digitsFrom radix text from)) tooGreat)
 
 abbrev μ-loop : tie.MeasureT-loop
 μ-loop text from radix magnitude₀ i₀ magnitude i = length text - i
@@ -23,7 +24,7 @@ abbrev μ-loop : tie.MeasureT-loop
 -- no digit stands at the loop's place
 stopped : (c : tie.At-loop Inv-loop μ-loop) → digitsFrom (c .before .before .args .radix) (c .before .before .args .text .now) (c .loop .i) ≡ []
     → (let a = c .before .before .args in
-    (c .loop .i ≡ endFrom (a .radix) (a .text .now) (a .from)) × (c .loop .magnitude ≡ min (digitsValue (a .radix) (digitsFrom (a .radix) (a .text .now) (a .from))) 32768)
+    (c .loop .i ≡ endFrom (a .radix) (a .text .now) (a .from)) × (c .loop .magnitude ≡ min (digitsValue (a .radix) (digitsFrom (a .radix) (a .text .now) (a .from))) tooGreat)
     × (c .loop .i ≤ length (a .text .now)))
 stopped c e = let v = c .loop .inv in (end-here _ _ _ _ (v .2) e, sum-done _ _ _ _ (v .3) e (v .1), v .0)
 

@@ -10,6 +10,7 @@ use Rattle.lexical_read_float.specs.Scan.{withFraction}
 use Rattle.lexical_read_float.proofs.ScanLaws.{begins-inside, fraction-some}
 use Rattle.lexical_read_float.proofs.scan.with_fraction.Statement.{statement}
 use Rattle.lexical_read_float.proofs.scan.with_fraction.Tie as tie
+use Rattle.lexical_read_float_spec.specs.Read.{longestRead}
 
 -- the point stands inside the text
 inside : (c : tie.Then1) → c .before .before .before .args .end < length (c .before .before .before .args .text .now)
@@ -36,7 +37,7 @@ returns c =
     let i = m .before in
     let s = i .before .before .before in
     let d = m .mantissa-digits .ensures in
-    let few : m .mantissa-digits .result .end - (s .args .end + 1) ≤ 4096 = omega arith in
+    let few : m .mantissa-digits .result .end - (s .args .end + 1) ≤ longestRead = omega arith in
     rw (toZ-pos w32 {n = m .mantissa-digits .result .end - (s .args .end + 1)} (omega arith))
     (fraction-some (s .args .text .now) (s .args .radix) (s .args .b) (s .args .kept) (s .args .end) _ _ _ (sym (i .before .stands-at .ensures) ∙ i .if1 .taken) (d .0) (d .1), (d .3, d .2, few))
 

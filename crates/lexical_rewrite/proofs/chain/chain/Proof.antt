@@ -14,6 +14,7 @@ use Rattle.lexical_rewrite.specs.Code.{onFrom}
 use Rattle.lexical_rewrite.proofs.ChainLaws.{first-alone, on-written, on-reading, on-writing}
 use Rattle.lexical_rewrite.proofs.chain.chain.Statement.{statement}
 use Rattle.lexical_rewrite.proofs.chain.chain.Tie as tie
+use Rattle.lexical_write_float_spec.specs.Write.{longestText}
 
 -- what the call was given
 abbrev start : tie.After-station-into2 → tie.Start
@@ -55,7 +56,7 @@ chain-further-requires c κs =
     let n = v .written .given .0 .0 in
     let told = sym (w .station-into2 .ensures .0) ∙ ap ofRewritten (v .written .given .1) in
     let few = rewritten-fits (a .first) ownBuffer (readIn (ofWidth (a .width)) (a .from) (a .text .now)) n told in
-    (search needs, omega (arith, length-replicate {A = ℕ} 2275 0), omega arith)
+    (search needs, omega (arith, length-replicate {A = ℕ} longestText 0), omega arith)
 
 enum-known-refusal : tie.Need-enum-known-refusal
 enum-known-refusal c = search needs
@@ -74,7 +75,7 @@ returns-2 c =
     let a = start w .args in
     let n = v .written .given .0 .0 in
     let told = sym (w .station-into2 .ensures .0) ∙ ap ofRewritten (v .written .given .1) in
-    let e = on-written (ofWidth (a .width)) 0 (a .from) (a .text .now) (a .first) (a .further .now) (a .buffer .now) ownBuffer (omega arith) (length-replicate {A = ℕ} 2275 0) n told in
+    let e = on-written (ofWidth (a .width)) 0 (a .from) (a .text .now) (a .first) (a .further .now) (a .buffer .now) ownBuffer (omega arith) (length-replicate {A = ℕ} longestText 0) n told in
     let same = ap (λ (l : List ℕ). onFrom (ofWidth (a .width)) 1 (a .first) (take n l) (a .further .now) (a .buffer .now)) (w .station-into2 .ensures .1) ∙ sym e in
     (k .chain-further .ensures .0 ∙ ap (λ (o : Outcome). o .answer) same, k .chain-further .ensures .1 ∙ ap (λ (o : Outcome). o .bytes) same)
 
@@ -83,7 +84,7 @@ returns-3 c =
     let w = c .before .before .before .before in
     let a = start w .args in
     let told = sym (w .station-into2 .ensures .0) ∙ ap ofRewritten (c .before .refusal .given .1) in
-    let e = on-reading (ofWidth (a .width)) 0 (a .from) (a .text .now) (a .first) (a .further .now) (a .buffer .now) ownBuffer (omega arith) (length-replicate {A = ℕ} 2275 0) _ _ told in
+    let e = on-reading (ofWidth (a .width)) 0 (a .from) (a .text .now) (a .first) (a .further .now) (a .buffer .now) ownBuffer (omega arith) (length-replicate {A = ℕ} longestText 0) _ _ told in
     (sym (ap (λ (o : Outcome). o .answer) e), sym (ap (λ (o : Outcome). o .bytes) e))
 
 returns-4 : tie.Need-returns-4
@@ -91,7 +92,7 @@ returns-4 c =
     let w = c .before .before .before .before in
     let a = start w .args in
     let told = sym (w .station-into2 .ensures .0) ∙ ap ofRewritten (c .before .refusal2 .given .1) in
-    let e = on-writing (ofWidth (a .width)) 0 (a .from) (a .text .now) (a .first) (a .further .now) (a .buffer .now) ownBuffer (omega arith) (length-replicate {A = ℕ} 2275 0) _ _ told in
+    let e = on-writing (ofWidth (a .width)) 0 (a .from) (a .text .now) (a .first) (a .further .now) (a .buffer .now) ownBuffer (omega arith) (length-replicate {A = ℕ} longestText 0) _ _ told in
     (sym (ap (λ (o : Outcome). o .answer) e), sym (ap (λ (o : Outcome). o .bytes) e))
 
 pub chain-spec : {M : Type 1} → statement M

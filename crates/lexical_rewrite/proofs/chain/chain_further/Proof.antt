@@ -15,11 +15,12 @@ use Rattle.lexical_rewrite.specs.Code.{onFrom, sourceAt}
 use Rattle.lexical_rewrite.proofs.ChainLaws.{from-last, from-written, from-reading, from-writing, source-first, source-next}
 use Rattle.lexical_rewrite.proofs.chain.chain_further.Statement.{statement}
 use Rattle.lexical_rewrite.proofs.chain.chain_further.Tie as tie
+use Rattle.lexical_write_float_spec.specs.Write.{longestText}
 
 abbrev Inv-loop : tie.InvT-loop
 Inv-loop scratch₀ written first further buffer width count₀ station₀ at₀ scratch count station at =
-    (length scratch ≡ 2275)
-    × (count ≤ 2275)
+    (length scratch ≡ longestText)
+    × (count ≤ longestText)
     × (at < length further)
     × (station ≤ at + 1)
     × (onFrom (ofWidth width) station (sourceAt first further at) (take count scratch) (drop at further) buffer ≡ onFrom (ofWidth width) 1 first (take written scratch₀) further buffer)

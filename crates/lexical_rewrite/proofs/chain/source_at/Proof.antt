@@ -1,4 +1,4 @@
--- `lexical_rewrite::chain::source_at` meets its contract: no record is before one at a place below 19. Assumes nothing.
+-- `lexical_rewrite::chain::source_at` meets its contract: no record is before one at a place within the first. Assumes nothing.
 use mathlib.Core.Path.{sym, _∙_}
 use native.Mathlib.Omega.{arith}
 use Rattle.lexical_rewrite.proofs.ChainLaws.{source-first, source-before}

@@ -11,10 +11,11 @@ use Rattle.lexical_exponent.specs.Exponent.{heightAbove}
 use Rattle.lexical_exponent.proofs.ExponentLaws.{digits-height}
 use Rattle.lexical_write_float.proofs.binary.kept_bits.Statement.{statement}
 use Rattle.lexical_write_float.proofs.binary.kept_bits.Tie as tie
+use Rattle.lexical_format.specs.Format.{mostCount}
 
 -- at most 5 bits a digit
-few : {b n : ℕ} → b ≤ 5 → n ≤ 1200 → b * n ≤ 6000
-few {b} {n} h l = mul-le-mul {n₁ = b} {m₁ = n} {n₂ = 5} {m₂ = 1200} h l
+few : {b n : ℕ} → b ≤ 5 → n ≤ mostCount → b * n ≤ 6000
+few {b} {n} h l = mul-le-mul {n₁ = b} {m₁ = n} {n₂ = 5} {m₂ = mostCount} h l
 
 calculate-shl-requires : tie.Need-calculate-shl-requires
 calculate-shl-requires c κs = tt

@@ -9,6 +9,8 @@ use Rattle.outage_console.proofs.ScreenLaws.{put-shown}
 use Rattle.outage_console.proofs.WeekLaws.{table-returns}
 use Rattle.outage_console.proofs.screen.print_sheet.Statement.{statement}
 use Rattle.outage_console.proofs.screen.print_sheet.Tie as tie
+use Rattle.outage_spec.specs.Sheet.{sheetSize}
+use Rattle.lexical_write_float_spec.specs.Write.{longestText}
 
 sheet-in-requires : tie.Need-sheet-in-requires
 sheet-in-requires c κs = search needs
@@ -27,7 +29,7 @@ returns c =
     let a = s .before .before .args in
     let table = a .table .now in
     let e = rw (s .sheet-in .ensures) at (t .table-to-sheet .ensures) in
-    let k = put-shown (printing table) (a .out .now) _ _ 1820804 _ _ (omega arith) (sheet-short (printed .format) (printed .options) table) (e .0, e .1 .0) (c .put-answer .ensures) in
+    let k = put-shown (printing table) (a .out .now) _ _ (sheetSize longestText) _ _ (omega arith) (sheet-short (printed .format) (printed .options) table) (e .0, e .1 .0) (c .put-answer .ensures) in
     (k .count, (k .bytes, (k .within, table-returns table (all-bytes table (λ i. s .before .shared-slice-known .given i .fits)))))
 
 pub print-sheet-spec : {M : Type 1} → statement M

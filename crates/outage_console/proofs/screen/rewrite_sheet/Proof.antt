@@ -13,6 +13,9 @@ use Rattle.outage_console.proofs.WeekLaws.{sheet-returns}
 use borrow.Author.Needs.{needs}
 use Rattle.outage_console.proofs.screen.rewrite_sheet.Statement.{statement}
 use Rattle.outage_console.proofs.screen.rewrite_sheet.Tie as tie
+use Rattle.outage_spec.specs.Sheet.{sheetSize}
+use Rattle.outage_spec.specs.Table.{tableSize, mostWindows}
+use Rattle.lexical_write_float_spec.specs.Write.{longestText}
 
 -- what the call was given
 abbrev start : tie.After-table-of → tie.Start
@@ -20,15 +23,15 @@ start t = t .before .before .before
 
 -- bytes for the longest table
 abbrev fresh : List ℕ
-fresh = replicate {A = ℕ} 6408 0
+fresh = replicate {A = ℕ} (tableSize mostWindows) 0
 
 -- the table that was read
 table-got : (c : tie.After-count) → let t = c .before .before .before in let a = start t .args in
-    Got (reading (a .from) (a .sheet .now)) fresh 6408 (c .count .given .0 .0)
+    Got (reading (a .from) (a .sheet .now)) fresh (tableSize mostWindows) (c .count .given .0 .0)
 table-got c =
     let t = c .before .before .before in
     let a = start t .args in
-    got (reading (a .from) (a .sheet .now)) fresh 6408 (omega (arith, length-replicate {A = ℕ} 6408 0)) (reading-within (a .from) (a .sheet .now)) _ (sym (t .table-of .ensures .0) ∙ ap ofWritten (c .count .given .1))
+    got (reading (a .from) (a .sheet .now)) fresh (tableSize mostWindows) (omega (arith, length-replicate {A = ℕ} (tableSize mostWindows) 0)) (reading-within (a .from) (a .sheet .now)) _ (sym (t .table-of .ensures .0) ∙ ap ofWritten (c .count .given .1))
 
 slice-aggregate-table-of : tie.Need-slice-aggregate-table-of
 slice-aggregate-table-of c = search needs
@@ -79,7 +82,7 @@ returns c =
     let front : take (m - 0) (t .table-of .last .1 .1 .0) ≡ g .bytes = rw all (ap (take m) (t .table-of .ensures .1) ∙ g .front) in
     let same = ap (tableSheet (a .to .format) (a .to .options)) front ∙ sym is in
     let e = rw same at (w .table-to-sheet .ensures) in
-    let h = put-shown (rewriting (a .from) (a .to) s) (a .out .now) _ _ 1820804 _ _ (omega arith) (λ text q. sheet-short (a .to .format) (a .to .options) (g .bytes) text (sym is ∙ q)) (e .0, e .1 .0) (c .put-answer .ensures) in
+    let h = put-shown (rewriting (a .from) (a .to) s) (a .out .now) _ _ (sheetSize longestText) _ _ (omega arith) (λ text q. sheet-short (a .to .format) (a .to .options) (g .bytes) text (sym is ∙ q)) (e .0, e .1 .0) (c .put-answer .ensures) in
     (h .count, (h .bytes, (h .within, (same-rows (a .from) (a .to) s, sheet-returns (a .from) s))))
 
 returns-2 : tie.Need-returns-2
@@ -89,7 +92,7 @@ returns-2 c =
     let a = start t .args in
     let F = a .from in
     let s = a .sheet .now in
-    let no = not-got (reading F s) fresh 6408 (omega (arith, length-replicate {A = ℕ} 6408 0)) (reading-within F s) _ _ (sym (t .table-of .ensures .0) ∙ ap ofWritten (k .refusal .given .1)) in
+    let no = not-got (reading F s) fresh (tableSize mostWindows) (omega (arith, length-replicate {A = ℕ} (tableSize mostWindows) 0)) (reading-within F s) _ _ (sym (t .table-of .ensures .0) ∙ ap ofWritten (k .refusal .given .1)) in
     let h = line-shown (rewriting F (a .to) s) _ _ _ _ _ (rewriting-refused F (a .to) s _ _ no) (c .put-refusal .ensures) in
     (h .count, (h .bytes, (h .within, (same-rows F (a .to) s, sheet-returns F s))))
 

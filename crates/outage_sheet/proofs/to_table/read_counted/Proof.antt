@@ -14,6 +14,7 @@ use Rattle.outage_sheet.proofs.SheetLaws.{count-open, count-read, no-co
 use borrow.Author.Needs.{needs}
 use Rattle.outage_sheet.proofs.to_table.read_counted.Statement.{statement}
 use Rattle.outage_sheet.proofs.to_table.read_counted.Tie as tie
+use Rattle.outage_spec.specs.Table.{mostWindows}
 
 -- where the count line was read, and what is left
 abbrev start : tie.After-read-number → tie.Start
@@ -29,14 +30,14 @@ module _ (k : tie.After-count) where
   abbrev n : ℕ
   n = k .count .given .0 .0
 
-  number-is : some n ≡ numberIn 400 (take (r .before .before .before .find .result) s)
+  number-is : some n ≡ numberIn mostWindows (take (r .before .before .before .find .result) s)
   number-is = ap ofNumber (sym (k .count .given .1)) ∙ r .read-number .ensures
 
   count-is : sheetCount s ≡ done n
   count-is = let f = r .before .before .before .find in count-read s (f .result) (f .ensures .0) (r .before .before .if1 .left) (some n) number-is
 
-  few : n ≤ 400
-  few = number-le 400 (take (r .before .before .before .find .result) s) n (sym number-is)
+  few : n ≤ mostWindows
+  few = number-le mostWindows (take (r .before .before .before .find .result) s) n (sym number-is)
 
 find-requires : tie.Need-find-requires
 find-requires c κs = search needs

@@ -8,7 +8,7 @@ use lib.ListN.{drop, replicate, length-replicate}
 use lib.Seq.{length-take-le}
 use Rattle.lexical_util.specs.Answer.{Answer, done, refused, ofWritten}
 use Rattle.outage_spec.specs.declared.window.Window.{Window}
-use Rattle.outage_spec.specs.Table.{tableSize}
+use Rattle.outage_spec.specs.Table.{tableSize, mostWindows}
 use Rattle.outage_spec.specs.Sheet.{linesFrom}
 use Rattle.outage_spec.proofs.StoredLaws.{lines-counted}
 use Rattle.outage_sheet.proofs.FillLaws.{sizeOf, table-read, table-refused, size-done}
@@ -72,7 +72,7 @@ returns c =
     let k = c .before .before .before .before .before .before in
     let r = k .before .before .before in
     let a = start r .args in
-    table-read (a .n) (replicate {A = ℕ} 6408 0) (a .table .now) (omega (arith, length-replicate {A = ℕ} 6408 0)) (omega arith) (rows r)
+    table-read (a .n) (replicate {A = ℕ} (tableSize mostWindows) 0) (a .table .now) (omega (arith, length-replicate {A = ℕ} (tableSize mostWindows) 0)) (omega arith) (rows r)
     (lines-counted (a .format) (a .options) (a .n) (a .from) none (drop (a .from) (a .sheet .now)))
     (k .size .given .0 .0) (read k) _ _ (r .before .before .before .put-header .ensures) (r .read-rows .ensures .1) _ (c .before .before .copy .ensures)
 

@@ -10,8 +10,9 @@ use Rattle.outage_table.specs.Text.{textOf}
 use Rattle.outage_table.proofs.TextLaws.{text-short, text-counted, text-served}
 use Rattle.outage_table.proofs.print.text_length.Statement.{statement}
 use Rattle.outage_table.proofs.print.text_length.Tie as tie
+use Rattle.lexical_write_float_spec.specs.Write.{longestText}
 
-short : (s : tie.Start) → length (textOf (s .args .format) (s .args .options) (s .args .x)) ≤ 2275
+short : (s : tie.Start) → length (textOf (s .args .format) (s .args .options) (s .args .x)) ≤ longestText
 short s = text-short (s .args .format) (s .args .options) (s .args .x) (subst T (sym (s .good .0 .1)) tt) (s .pre .1)
 
 write-f64-requires : tie.Need-write-f64-requires

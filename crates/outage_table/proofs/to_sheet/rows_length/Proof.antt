@@ -11,10 +11,11 @@ use Rattle.lexical_util.specs.Answer.{done}
 use Rattle.outage_table.proofs.RowsLaws.{row-texts, rows-more, rows-stop, rows-end, lengthAfter, length-more, length-none, length-all}
 use Rattle.outage_table.proofs.to_sheet.rows_length.Statement.{statement}
 use Rattle.outage_table.proofs.to_sheet.rows_length.Tie as tie
+use Rattle.lexical_write_float_spec.specs.Write.{longestText}
 
 abbrev Inv-loop : tie.InvT-loop
 Inv-loop table n format options scratch₀ sum₀ i₀ scratch sum i =
-    (lengthAfter format options sum (rowsFrom table n i (n - i)) ≡ lengthAfter format options 0 (rowsFrom table n 0 n)) × (i ≤ n) × (sum ≤ 4552 * i) × (length scratch ≡ 2275)
+    (lengthAfter format options sum (rowsFrom table n i (n - i)) ≡ lengthAfter format options 0 (rowsFrom table n 0 n)) × (i ≤ n) × (sum ≤ (2 * (longestText + 1)) * i) × (length scratch ≡ longestText)
 
 abbrev μ-loop : tie.MeasureT-loop
 μ-loop table n format options scratch₀ sum₀ i₀ scratch sum i = n - i
