@@ -4,11 +4,11 @@ use mathlib.Core.Path.{_≡_}
 use mathlib.Core.Bool.{Bool, false, cond}
 use mathlib.Core.List.{List, [], _∷_, _++_}
 use lib.Dec.{T}
-use lib.IntN.{ℤ, natAbs}
+use lib.IntN.{ℤ}
 use lib.ListN.{length, take, drop}
 use lib.Ieee.{Format, fin, fits}
 use Rattle.lexical_util.specs.Answer.{Answer, done, refused, andThen}
-use Rattle.lexical_exponent.specs.Exponent.{place}
+use Rattle.lexical_exponent.specs.Exponent.{place, placesBeforePoint}
 use Rattle.lexical_exponent.specs.declared.exponent.Magnitude.{Magnitude}
 use Rattle.lexical_float.specs.declared.num.Parts.{Parts}
 use Rattle.lexical_float.specs.declared.num.Parts.the-variants as parts
@@ -93,7 +93,7 @@ pub record IsPlan (point count : ℕ) (text : List ℕ → List ℕ) (P : Plan) 
 abbrev pub bodyText : NumberFormat → Options → ℤ → ℕ → Layout → List ℕ → List ℕ
 bodyText F o p soFar Scientific D = scientific F o D
 bodyText F o p soFar Negative D = negative F o D p
-bodyText F o p soFar Positive D = positive F o D (natAbs p + 1) soFar
+bodyText F o p soFar Positive D = positive F o D (placesBeforePoint p) soFar
 
 -- ---- an exponent in powers of the base, by its sign and its magnitude
 abbrev pub signText : Bool → Bool → List ℕ

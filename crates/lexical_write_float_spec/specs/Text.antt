@@ -3,10 +3,10 @@ use Prim.Native.Nat.{ℕ, zero, suc, _+_, _-_, max}
 use mathlib.Core.Bool.{Bool, not, cond, _&&_, _||_}
 use mathlib.Core.List.{List, [], _∷_, _++_}
 use lib.Dec.{ltb}
-use lib.IntN.{ℤ, pos, negsuc, natAbs}
+use lib.IntN.{ℤ, pos, negsuc}
 use lib.Signed.{ltZ}
 use lib.ListN.{length, take, drop, replicate}
-use Rattle.lexical_exponent.specs.Exponent.{scale, place, power}
+use Rattle.lexical_exponent.specs.Exponent.{scale, place, power, zerosBehindPoint, placesBeforePoint}
 use Rattle.lexical_write_integer_spec.specs.Digits.{numeral}
 use Rattle.lexical_format.specs.declared.format.Pair.{Pair}
 use Rattle.lexical_format.specs.declared.format.NumberFormat.{NumberFormat}
@@ -60,7 +60,7 @@ module _ (F : NumberFormat) (o : Options) where
 
   -- ---- negative: "0", point, -p-1 zeros, D, zeros up to the least count
   unfoldable pub negative : List ℕ → ℤ → List ℕ
-  negative D p = 48 ∷ (point ∷ (zeros (natAbs p - 1) ++ (D ++ zeros (least - length D))))
+  negative D p = 48 ∷ (point ∷ (zeros (zerosBehindPoint p) ++ (D ++ zeros (least - length D))))
 
   -- ---- positive, p+1 places before the point
   -- zeros fill the places; trim stops there; without it ".0" follows, then zeros as if `soFar` were the digits so far
@@ -78,7 +78,7 @@ module _ (F : NumberFormat) (o : Options) where
   abbrev pub laidOut : Pair → List ℕ → ℤ → ℕ → Layout → List ℕ
   laidOut row D p soFar Scientific = scientific D ++ exponentText row p
   laidOut row D p soFar Negative = negative D p
-  laidOut row D p soFar Positive = positive D (natAbs p + 1) soFar
+  laidOut row D p soFar Positive = positive D (placesBeforePoint p) soFar
 
   -- the length of D plus one, for zero 1
   abbrev pub digitsSoFar : ℕ → List ℕ → ℕ
