@@ -1,6 +1,6 @@
 -- What a float is, as one answer: document 01, "Float parts" and refusal 7. Both widths by the format. Definitions only.
 use Prim.Native.Nat.{_*_}
-use mathlib.Core.Bool.{Bool, true, false, not}
+use mathlib.Core.Bool.{Bool, true, false, not, cond}
 use lib.Dec.{T}
 use lib.Ieee.{Float, nan, inf, fin, Format, up, down}
 use lib.Ieee.Exact.{HasValue}
@@ -21,10 +21,7 @@ isPlain (fin s m e) = not s
 
 -- the three cases of a float: plain, finite with the sign bit set, and not finite
 unfoldable pub partsOf : Format → Float → Parts
-partsOf f nan = Special
-partsOf f (inf s) = Special
-partsOf f (fin true m e) = Negative (magnitudeOf f (fin true m e))
-partsOf f (fin false m e) = Plain (magnitudeOf f (fin false m e))
+partsOf f x = cond (isPlain x) (Plain (magnitudeOf f x)) (cond (finite x) (Negative (magnitudeOf f x)) Special)
 
 -- the parts are the float: they have its sign, and mantissa * 2 ^ exponent, the fraction of `up` and `down`, is its size; or it is not finite
 abbrev pub IsValue : Float → Parts → Type 0

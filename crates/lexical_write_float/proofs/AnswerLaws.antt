@@ -117,10 +117,10 @@ module _ (F : NumberFormat) (o : Options) (x : Float) (out : List ℕ) (a : Answ
 
 never-refused : (F : NumberFormat) (o : Options) (x : Float) (out : List ℕ) (a : Answer ℕ) → a ≡ written (writeText F o x) out → NeverRefused F o x out a
 unfolding writeText floatText
-never-refused F o nan out a e = tt
-never-refused F o (inf s) out a e = tt
-never-refused F o (fin true m d) out a e = tt
-never-refused F o (fin false m d) out a e = λ row w h. e ∙ rw (w, le-leb (length (limitedText F o row m d)) (length out) h) refl
+never-refused F o nan out a e = λ row p w h. absurd p
+never-refused F o (inf s) out a e = λ row p w h. absurd p
+never-refused F o (fin true m d) out a e = λ row p w h. absurd p
+never-refused F o (fin false m d) out a e = λ row p w h. e ∙ rw (w, le-leb (length (limitedText F o row m d)) (length out) h) refl
 
 -- ---- all that a call promises: the answer, the lent bytes, and the two
 abbrev pub Answered : NumberFormat → Options → Float → List ℕ → Answer ℕ → List ℕ → Type 0

@@ -3,7 +3,7 @@ use Prim.Native.Nat.{ℕ, zero, suc, _*_, _/_, _^_}
 use mathlib.Core.List.{List}
 use lib.Count.{trailingZeros}
 use lib.IntN.{ℤ, pos, _+ℤ_}
-use lib.Ieee.{size}
+use lib.Ieee.{Float, nan, inf, fin, size}
 use Rattle.lexical_exponent.specs.Exponent.{modulo}
 use Rattle.lexical_write_integer_spec.specs.Digits.{numeral}
 
@@ -11,6 +11,12 @@ use Rattle.lexical_write_integer_spec.specs.Digits.{numeral}
 pub record Value : Type 0 where
   pub m : ℕ
   pub e : ℤ
+
+-- the absolute value of a finite float, in normal form; zero where there is none
+abbrev pub absolute : Float → Value
+absolute nan = record { m = 0; e = pos 0 }
+absolute (inf s) = record { m = 0; e = pos 0 }
+absolute (fin s m e) = record { m = m; e = e }
 
 -- the normal form of a value: m odd, or m and e zero. A finite float of `lib.Ieee` has it.
 unfoldable pub normal : ℕ → ℤ → Value

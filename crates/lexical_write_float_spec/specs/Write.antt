@@ -2,16 +2,19 @@
 -- at both widths. Definitions only.
 use Prim.Native.Nat.{ℕ, _≤_}
 use mathlib.Core.Path.{_≡_}
-use mathlib.Core.Bool.{true, false}
-use mathlib.Core.List.{List}
+use mathlib.Core.Bool.{not}
+use mathlib.Core.List.{List, [], _∷_}
+use lib.Dec.{T}
 use lib.IntN.{ℤ}
 use lib.ListN.{length}
-use lib.Ieee.{Float, nan, inf, fin}
-use Rattle.lexical_util.specs.Answer.{Answer, done, refused, andThen}
+use lib.Ieee.{Float}
+use Rattle.lexical_util.specs.Answer.{Answer, done, refused, andThen, checked}
+use Rattle.lexical_float.specs.Parts.{isPlain}
 use Rattle.lexical_format.specs.declared.format.Pair.{Pair}
 use Rattle.lexical_format.specs.declared.format.NumberFormat.{NumberFormat}
 use Rattle.lexical_format.specs.declared.options.Options.{Options}
 use Rattle.lexical_format.specs.Format.{writingFormat}
+use Rattle.lexical_write_float_spec.specs.Value.{absolute}
 use Rattle.lexical_write_float_spec.specs.Limit.{limited}
 use Rattle.lexical_write_float_spec.specs.Text.{text}
 
@@ -26,10 +29,7 @@ module _ (F : NumberFormat) (o : Options) where
 
   -- 7 not finite, or sign bit set (-0 too)
   unfoldable pub floatText : Float → Pair → Answer (List ℕ)
-  floatText nan row = refused 7 0
-  floatText (inf s) row = refused 7 0
-  floatText (fin true m e) row = refused 7 0
-  floatText (fin false m e) row = done (limitedText row m e)
+  floatText x row = checked ((7, not (isPlain x)) ∷ []) (done (limitedText row (absolute x .m) (absolute x .e)))
 
   -- 1 to 6, 7
   unfoldable pub writeText : Float → Answer (List ℕ)
@@ -43,8 +43,6 @@ NoLonger (refused n p) = Unit {0}
 
 -- a finite float with the sign bit clear, a format that the writer admits and bytes enough for the text are never refused
 abbrev pub NeverRefused : NumberFormat → Options → Float → List ℕ → Answer ℕ → Type 0
-NeverRefused F o nan out answer = Unit {0}
-NeverRefused F o (inf s) out answer = Unit {0}
-NeverRefused F o (fin true m e) out answer = Unit {0}
-NeverRefused F o (fin false m e) out answer =
-    (row : Pair) → writingFormat F o ≡ done row → length (limitedText F o row m e) ≤ length out → answer ≡ done (length (limitedText F o row m e))
+NeverRefused F o x out answer =
+    (row : Pair) → T (isPlain x) → writingFormat F o ≡ done row
+    → let text = limitedText F o row (absolute x .m) (absolute x .e) in length text ≤ length out → answer ≡ done (length text)
