@@ -9,6 +9,8 @@ ghost use Rattle.lexical_read_float.specs.Pattern.{lift};
 ghost use Rattle.lexical_read_float.specs.Kept.{full, IsFull, Holds};
 ghost use Rattle.lexical_read_float.specs.Rounding.{ofRounded, IsFinite, roundedBits};
 use crate::kept::Kept;
+use lexical_exponent::BitExponent;
+use lexical_exponent::height_above;
 use lexical_exponent::significant_bits;
 use lexical_float::Width;
 use lexical_float::encoding_of;
@@ -23,10 +25,8 @@ pub(crate) enum Rounded {
 fn lowest_of(width: Width) -> u32
     ensures { λ r. ⌜ r ≡ low (ofWidth width) ⌝ }
 {
-    match width {
-        Width::Binary32 => 149,
-        Width::Binary64 => 1074,
-    }
+    let encoding = encoding_of(width);
+    height_above(BitExponent(0), encoding.denormal_exponent)
 }
 
 // How far the last bit that the width keeps stands above its least value.
