@@ -5,14 +5,8 @@ use Rattle.lexical_float.proofs.PartsLaws.{tested-bits}
 use Rattle.examples.proofs.floats.f64_of.Statement.{statement}
 use Rattle.examples.proofs.floats.f64_of.Tie as tie
 
-returns : tie.Need-returns
-returns c = search needs
-
 float-from-bits-result : tie.Need-float-from-bits-result
 float-from-bits-result c = tested-bits binary64 (c .before .args .bits) (c .if1 .left)
 
-returns-2 : tie.Need-returns-2
-returns-2 c = search needs
-
 pub f64-of-spec : {M : Type 1} → statement M
-f64-of-spec = tie.close (tie.spec returns float-from-bits-result returns-2)
+f64-of-spec = tie.close (tie.spec (λ c. search needs) float-from-bits-result (λ c. search needs))

@@ -12,17 +12,11 @@ use Rattle.vectors.proofs.reading.bits_of_f32.Tie as tie
 held : (c : tie.Start) → T (fits binary32 (c .args .x))
 held c = subst T (sym (c .good .0 .1)) tt
 
-returns : tie.Need-returns
-returns c = search needs
-
 float-to-bits-bits : tie.Need-float-to-bits-bits
 float-to-bits-bits c = no-nan (c .before .args .x) (c .if1 .left)
 
 cast-t4 : tie.Need-cast-t4
 cast-t4 c = omega (arith, toBits-lt binary32 (c .before .args .x) (held (c .before)))
 
-returns-2 : tie.Need-returns-2
-returns-2 c = search needs
-
 pub bits-of-f32-spec : {M : Type 1} → statement M
-bits-of-f32-spec = tie.close (tie.spec returns float-to-bits-bits cast-t4 returns-2)
+bits-of-f32-spec = tie.close (tie.spec (λ c. search needs) float-to-bits-bits cast-t4 (λ c. search needs))

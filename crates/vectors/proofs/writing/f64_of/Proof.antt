@@ -6,14 +6,8 @@ use borrow.Author.Needs.{needs}
 use Rattle.vectors.proofs.writing.f64_of.Statement.{statement}
 use Rattle.vectors.proofs.writing.f64_of.Tie as tie
 
-returns : tie.Need-returns
-returns c = search needs
-
 float-from-bits-t3 : tie.Need-float-from-bits-t3
 float-from-bits-t3 c = tested-bits binary64 (c .before .args .bits) (omega arith)
 
-returns-2 : tie.Need-returns-2
-returns-2 c = search needs
-
 pub f64-of-spec : {M : Type 1} → statement M
-f64-of-spec = tie.close (tie.spec returns float-from-bits-t3 returns-2)
+f64-of-spec = tie.close (tie.spec (λ c. search needs) float-from-bits-t3 (λ c. search needs))

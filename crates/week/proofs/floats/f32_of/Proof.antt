@@ -6,14 +6,8 @@ use borrow.Author.Needs.{needs}
 use Rattle.week.proofs.floats.f32_of.Statement.{statement}
 use Rattle.week.proofs.floats.f32_of.Tie as tie
 
-returns : tie.Need-returns
-returns c = search needs
-
 float-from-bits-result : tie.Need-float-from-bits-result
 float-from-bits-result c = tested-bits binary32 (c .before .args .bits) (omega arith)
 
-returns-2 : tie.Need-returns-2
-returns-2 c = search needs
-
 pub f32-of-spec : {M : Type 1} → statement M
-f32-of-spec = tie.close (tie.spec returns float-from-bits-result returns-2)
+f32-of-spec = tie.close (tie.spec (λ c. search needs) float-from-bits-result (λ c. search needs))

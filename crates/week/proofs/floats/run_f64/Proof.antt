@@ -10,41 +10,6 @@ Inv-loop list i₀ i = i ≤ 18
 abbrev μ-loop : tie.MeasureT-loop
 μ-loop list i₀ i = 18 - i
 
-loop-holds : tie.Need-loop-holds Inv-loop μ-loop
-loop-holds c = search needs
-
-mul-week-f64 : tie.Need-mul-week-f64 Inv-loop μ-loop
-mul-week-f64 c = search needs
-
-array-read-week-f64 : tie.Need-array-read-week-f64 Inv-loop μ-loop
-array-read-week-f64 c = search needs
-
-week-f64-requires : tie.Need-week-f64-requires Inv-loop μ-loop
-week-f64-requires c κs = search needs
-
-add-i : tie.Need-add-i Inv-loop μ-loop
-add-i c = search needs
-
-loop-less : tie.Need-loop-less Inv-loop μ-loop
-loop-less c = search needs
-
-loop-again : tie.Need-loop-again Inv-loop μ-loop
-loop-again c = search needs
-
-returns : tie.Need-returns Inv-loop μ-loop
-returns c = search needs
-
 pub run-f64-spec : {M : Type 1} → statement M
 run-f64-spec =
-    tie.close
-    (tie.spec
-    Inv-loop
-    μ-loop
-    loop-holds
-    mul-week-f64
-    array-read-week-f64
-    week-f64-requires
-    add-i
-    loop-less
-    loop-again
-    returns)
+    tie.close (tie.spec Inv-loop μ-loop (λ c. search needs) (λ c. search needs) (λ c. search needs) (λ c κs. search needs) (λ c. search needs) (λ c. search needs) (λ c. search needs) (λ c. search needs))
