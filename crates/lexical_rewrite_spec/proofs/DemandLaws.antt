@@ -1,18 +1,15 @@
 -- Demand 3: equal floats are rewritten to equal bytes and only they, and a chain of any length ends in the last format's text of the first text's float. Assumes nothing.
 use Prim.Native.Nat.{ℕ, _+_}
-use mathlib.Core.Path.{_≡_, refl, sym, ap, _∙_, subst}
+use mathlib.Core.Path.{_≡_, sym, ap, _∙_}
 use mathlib.Core.List.{List, [], _∷_}
-use native.Mathlib.Omega.{arith}
-use lib.ListN.{length, length-replicate}
+use lib.ListN.{length}
 use lib.Ieee.{Float, Format}
-use Rattle.lexical_util.specs.Digit.{All}
 use Rattle.lexical_util.proofs.AnswerLaws.{done-same}
 use Rattle.lexical_rewrite_spec.specs.declared.text_format.TextFormat.{TextFormat}
 use Rattle.lexical_rewrite_spec.specs.Rewrite.{Rewriting, readIn, textIn, rewriteAnswer, rewriteBytes}
-use Rattle.lexical_rewrite_spec.specs.Chain.{Chained, atStation, lastStation, chain, ownBuffer, stationOf, stationsOf, chainOf, lastFormat}
-use Rattle.lexical_rewrite_spec.specs.Demand.{Admits, Roomy, SameAsOthers, SameFloatSameBytes, Arrives, Ready, ChainArrives, NeverLost}
+use Rattle.lexical_rewrite_spec.specs.Chain.{Chained, atStation, chainFrom, chainOf, chain}
+use Rattle.lexical_rewrite_spec.specs.Demand.{IsFloatOf, Admits, Roomy, SameAsOthers, SameFloatSameBytes, Arrives, ChainArrives, NeverLost}
 use Rattle.lexical_rewrite_spec.proofs.StationLaws.{Has, has-text, station-answer, station-bytes, station-hands}
-use Rattle.lexical_write_float_spec.specs.Write.{longestText}
 
 -- ---- same float, same bytes
 -- a float has one text, and a text one float
@@ -43,49 +40,37 @@ pub same-as-others-by : (f : Format) (F : TextFormat) (t : List ℕ) (G : TextFo
 same-as-others-by f F t G out answer bytes p q = rw (p, q) (same-float-same-bytes f F t G out)
 
 -- ---- the chain
-pub chain-arrives : ChainArrives
-unfolding chain
-chain-arrives f i F t S [] x read ready all =
-    let h = has-text f F t (S .format) x read (ready .0) in
+-- its last station
+last-arrives : (f : Format) (i : ℕ) (F : TextFormat) (t : List ℕ) (G : TextFormat) (out : List ℕ) (x : Float) → IsFloatOf f F t x → Admits G → Roomy out
+    → Arrives x G out (atStation i (rewriteAnswer G out (readIn f F t))) (rewriteBytes G out (readIn f F t))
+last-arrives f i F t G out x read A room =
+    let h = has-text f F t G x read A in
     record {
       text = h .text;
       is-text = h .is-text;
-      answered = ap (atStation i) (station-answer f F t (S .format) (S .buffer) x read h (ready .1));
-      written = station-bytes f F t (S .format) (S .buffer) x read h (ready .1);
+      answered = ap (atStation i) (station-answer f F t G out x read h room);
+      written = station-bytes f F t G out x read h room;
       exact = h .exact;
     }
+
+pub chain-arrives : ChainArrives
+unfolding chain
+chain-arrives f i F t S [] x read ready all = last-arrives f i F t (S .format) (S .buffer) x read (ready .0) (ready .1)
 chain-arrives f i F t S (S' ∷ Ss) x read ready all =
     let h = has-text f F t (S .format) x read (ready .0) in
     let step : chain f i F t S (S' ∷ Ss) ≡ chain f (i + 1) (S .format) (h .text) S' Ss = rw (station-answer f F t (S .format) (S .buffer) x read h (ready .1)) (ap (λ (l : List ℕ). chain f (i + 1) (S .format) l S' Ss) (station-hands f F t (S .format) (S .buffer) x read h (ready .1))) in
     rw step (chain-arrives f (i + 1) (S .format) (h .text) S' Ss x (h .back) (all .0) (all .1))
 
--- ---- a call that is lent the last station's buffer
-own-roomy : Roomy ownBuffer
-own-roomy = omega (arith, length-replicate {A = ℕ} longestText 0)
-
-module _ (out : List ℕ) where
-  pub last-buffer : (G : TextFormat) (Gs : List TextFormat) → lastStation (stationOf G Gs out) (stationsOf Gs out) .buffer ≡ out
-  last-buffer G [] = refl
-  last-buffer G (G' ∷ Gs) = last-buffer G' Gs
-
-  last-format : (G : TextFormat) (Gs : List TextFormat) → lastStation (stationOf G Gs out) (stationsOf Gs out) .format ≡ lastFormat G Gs
-  last-format G [] = refl
-  last-format G (G' ∷ Gs) = last-format G' Gs
-
-  ready : (G : TextFormat) (Gs : List TextFormat) → Roomy out → Admits G → Ready (stationOf G Gs out)
-  ready G [] room A = (A, room)
-  ready G (G' ∷ Gs) room A = (A, own-roomy)
-
-  all-ready : (Gs : List TextFormat) → Roomy out → All Admits Gs → All Ready (stationsOf Gs out)
-  all-ready [] room all = tt
-  all-ready (G ∷ Gs) room all = (ready G Gs room (all .0), all-ready Gs room (all .1))
+-- ---- a call that is lent the last station's buffer, from any station on
+from-arrives : (f : Format) (i : ℕ) (F : TextFormat) (t : List ℕ) (G : TextFormat) (Gs : List TextFormat) (out : List ℕ) → NeverLost f F t G Gs out (chainFrom f i F t G Gs out .answer) (chainFrom f i F t G Gs out .bytes)
+unfolding chainFrom
+from-arrives f i F t G [] out x read A all room = last-arrives f i F t G out x read A room
+from-arrives f i F t G (G' ∷ Gs) out x read A all room =
+    let h = has-text f F t G x read A in
+    rw (read, h .is-text) (from-arrives f _ _ _ G' Gs out x (h .back) (all .0) (all .1) room)
 
 pub never-lost : (f : Format) (F : TextFormat) (t : List ℕ) (G : TextFormat) (Gs : List TextFormat) (out : List ℕ) → NeverLost f F t G Gs out (chainOf f F t G Gs out .answer) (chainOf f F t G Gs out .bytes)
-never-lost f F t G Gs out x read A all room =
-    let o = chainOf f F t G Gs out in
-    subst (λ (H : TextFormat). Arrives x H out (o .answer) (o .bytes)) (last-format out G Gs)
-    (subst (λ (b : List ℕ). Arrives x (lastStation (stationOf G Gs out) (stationsOf Gs out) .format) b (o .answer) (o .bytes)) (last-buffer out G Gs)
-    (chain-arrives f 0 F t (stationOf G Gs out) (stationsOf Gs out) x read (ready out G Gs room A) (all-ready out Gs room all)))
+never-lost f F t G Gs out = from-arrives f 0 F t G Gs out
 
 -- the same of a call that answers and leaves what the chain does
 pub never-lost-by : (f : Format) (F : TextFormat) (t : List ℕ) (G : TextFormat) (Gs : List TextFormat) (out : List ℕ) (answer : Chained) (bytes : List ℕ)

@@ -1,16 +1,16 @@
 -- One station: a float that was read has a text in every admitted format, which is read back as that float and denotes its value exactly; a buffer of 2,275 bytes takes it.
--- And what a station hands on does not depend on what its buffer held. Assumes nothing.
+-- And a station that writes into bytes with room hands on the text, whatever they held. Assumes nothing.
 use Prim.Native.Nat.{ℕ, _≤_}
 use mathlib.Core.Path.{_≡_, refl, sym, ap, _∙_}
 use mathlib.Core.Bool.{Bool, true, false, cond}
 use mathlib.Core.List.{List, _++_}
 use native.Mathlib.Nat.{le-trans}
 use native.Mathlib.Omega.{arith}
-use borrow.Author.Tests.{leb-true}
-use lib.Dec.{leb}
+use borrow.Author.Tests.{le-leb, leb-true}
+use lib.Dec.{T, leb}
 use lib.ListN.{length, take, drop}
 use lib.Seq.{take-append-seam}
-use lib.Ieee.{Float, nan, inf, fin, Format}
+use lib.Ieee.{Float, nan, inf, fin, Format, fits}
 use lib.Ieee.Exact.{HasValue}
 use lib.Ieee.Positive.{num, den}
 use Rattle.lexical_util.specs.Answer.{Answer, done, refused, andThen, written, held}
@@ -25,6 +25,7 @@ use Rattle.lexical_read_float_spec.proofs.ReadLaws.{read-is-nearest}
 use Rattle.lexical_rewrite_spec.specs.declared.text_format.TextFormat.{TextFormat}
 use Rattle.lexical_rewrite_spec.specs.Claims.{Denotes}
 use Rattle.lexical_rewrite_spec.specs.Rewrite.{rewritten, readIn, textIn, byWriting, rewriteAnswer, rewriteBytes}
+use Rattle.lexical_rewrite_spec.specs.Chain.{readingRefusedAt, writingRefusedAt, Outcome, goesOn, onward}
 use Rattle.lexical_rewrite_spec.specs.Demand.{IsFloatOf, Admits, Roomy}
 use Rattle.lexical_rewrite_spec.proofs.WrittenLaws.{written-is-exact, written-is-read-back}
 
@@ -73,32 +74,23 @@ module _ (f : Format) (F : TextFormat) (t : List ℕ) (G : TextFormat) (out : Li
   pub station-hands : take (length (h .text)) (rewriteBytes G out (readIn f F t)) ≡ h .text
   station-hands = ap (take (length (h .text))) station-bytes ∙ take-append-seam (h .text) (drop (length (h .text)) out)
 
--- ---- two buffers of one length
-rewritten-same : (m n : ℕ) → rewritten m ≡ rewritten n → m ≡ n
-rewritten-same m n e = cc
-
-module _ (G : TextFormat) (out out' : List ℕ) (same : length out ≡ length out') where
-  pub answer-alike : (a : Answer Float) → rewriteAnswer G out a ≡ rewriteAnswer G out' a
-  answer-alike (refused n p) = refl
-  answer-alike (done x) = go (textIn G x)
+-- ---- a station before the last, which writes into bytes with room for every text: whatever they held, its text is handed on
+module _ (f : Format) (i : ℕ) (F : TextFormat) (t : List ℕ) (G : TextFormat) (out scratch : List ℕ) (room : Roomy scratch) (next : List ℕ → Outcome) where
+  pub station-goes-on : goesOn (readingRefusedAt i) out (readIn f F t) (λ x. goesOn (writingRefusedAt i) out (textIn G x) next)
+      ≡ onward i out (rewriteAnswer G scratch (readIn f F t)) (λ n. next (take n (rewriteBytes G scratch (readIn f F t))))
+  station-goes-on = go (readIn f F t) refl
     where
-      go : (t : Answer (List ℕ)) → byWriting (written t out) ≡ byWriting (written t out')
-      go (done t) = rw same
-      go (refused n p) = refl
+      text : (x : Float) → T (fits f x) → (a : Answer (List ℕ)) → textIn G x ≡ a
+          → goesOn (writingRefusedAt i) out a next ≡ onward i out (byWriting (written a scratch)) (λ n. next (take n (held a scratch)))
+      text x h (refused n p) e = refl
+      text x h (done s) e =
+          rw (le-leb (length s) (length scratch) (le-trans (longest-text f (G .format) (G .options) x s h e) room))
+          (ap next (sym (take-append-seam s (drop (length s) scratch))))
 
-  pub bytes-alike : (a : Answer Float) (n : ℕ) → rewriteAnswer G out a ≡ rewritten n → take n (rewriteBytes G out a) ≡ take n (rewriteBytes G out' a)
-  bytes-alike (refused m p) n e = absurd (let z : _≡_ {A = ℕ} 0 1 = cc in omega arith)
-  bytes-alike (done x) n e = go (textIn G x) e
-    where
-      fit : (t : List ℕ) (b : Bool) → byWriting (cond b (done (length t)) (refused 8 0)) ≡ rewritten n → take n (cond b (t ++ drop (length t) out) out) ≡ take n (cond b (t ++ drop (length t) out') out')
-      fit t true e =
-          rw (sym (rewritten-same (length t) n e))
-          (take-append-seam t (drop (length t) out) ∙ sym (take-append-seam t (drop (length t) out')))
-      fit t false e = absurd (let z : _≡_ {A = ℕ} 0 1 = cc in omega arith)
-
-      go : (t : Answer (List ℕ)) → byWriting (written t out) ≡ rewritten n → take n (held t out) ≡ take n (held t out')
-      go (refused m p) e = absurd (let z : _≡_ {A = ℕ} 0 1 = cc in omega arith)
-      go (done t) e = rw (sym same) (fit t (leb (length t) (length out)) e)
+      go : (a : Answer Float) → readIn f F t ≡ a
+          → goesOn (readingRefusedAt i) out a (λ x. goesOn (writingRefusedAt i) out (textIn G x) next) ≡ onward i out (rewriteAnswer G scratch a) (λ n. next (take n (rewriteBytes G scratch a)))
+      go (refused n p) e = refl
+      go (done x) e = text x (read-is-nearest f (F .format) (F .options) t x e .nearest .held) (textIn G x) refl
 
 -- ---- what was rewritten has room
 pub rewritten-fits : (G : TextFormat) (out : List ℕ) (a : Answer Float) (n : ℕ) → rewriteAnswer G out a ≡ rewritten n → n ≤ length out
@@ -106,7 +98,7 @@ rewritten-fits G out (refused m p) n e = absurd (let z : _≡_ {A = ℕ} 0 1 = c
 rewritten-fits G out (done x) n e = go (textIn G x) e
   where
     fit : (t : List ℕ) (b : Bool) → leb (length t) (length out) ≡ b → byWriting (cond b (done (length t)) (refused 8 0)) ≡ rewritten n → n ≤ length out
-    fit t true p e = rw (sym (rewritten-same (length t) n e)) (leb-true (length t) (length out) p)
+    fit t true p e = let same : length t ≡ n = cc in omega (arith, leb-true (length t) (length out) p)
     fit t false p e = absurd (let z : _≡_ {A = ℕ} 0 1 = cc in omega arith)
 
     go : (t : Answer (List ℕ)) → byWriting (written t out) ≡ rewritten n → n ≤ length out

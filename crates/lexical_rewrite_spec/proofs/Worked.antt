@@ -14,12 +14,12 @@ use Rattle.lexical_write_float_spec.specs.Write.{limitedText, floatText, writeT
 use Rattle.lexical_read_float_spec.specs.Parse.{run, signedExponent, parseTail, afterWhole, parse, shapeOf}
 use Rattle.lexical_read_float_spec.specs.Round.{tooLarge}
 use Rattle.lexical_read_float_spec.specs.Read.{numerator, denominator, floatOf, exponentTooLarge, exponentPlace, valueOf, readText, readFloat}
-use Rattle.lexical_rewrite_spec.specs.Chain.{chain}
+use Rattle.lexical_rewrite_spec.specs.Chain.{chainFrom}
 use Rattle.lexical_rewrite_spec.specs.Record.{numberFormatOfRecord, optionsOfRecord, recordsOf, formatsOf, recordOf}
 use Rattle.lexical_rewrite_spec.specs.Examples.{chains, records}
 
 pub chains-hold : failing chains ≡ []
-unfolding failing chains chain formatsOf recordsOf numberFormatOfRecord optionsOfRecord readFloat readText valueOf exponentTooLarge exponentPlace floatOf numerator denominator tooLarge shapeOf parse afterWhole parseTail signedExponent run readingFormat readOn writeText floatText limitedText text positive negative exponentText scientific layoutOf isScientific limited multipleOf exactDigits normal writingFormat badBreaks badCounts badBytes badByte pairOf findPair pairs numeral digits digitsUpTo isRadix isDigit digitIn digitValue digitByte round units odd size span climb trailingZeros
+unfolding failing chains chainFrom formatsOf recordsOf numberFormatOfRecord optionsOfRecord readFloat readText valueOf exponentTooLarge exponentPlace floatOf numerator denominator tooLarge shapeOf parse afterWhole parseTail signedExponent run readingFormat readOn writeText floatText limitedText text positive negative exponentText scientific layoutOf isScientific limited multipleOf exactDigits normal writingFormat badBreaks badCounts badBytes badByte pairOf findPair pairs numeral digits digitsUpTo isRadix isDigit digitIn digitValue digitByte round units odd size span climb trailingZeros
 chains-hold = refl
 
 pub records-hold : failing records ≡ []

@@ -1,16 +1,11 @@
 -- A chain of stations: document 01, "Rewriting". Definitions only.
 use Prim.Native.Nat.{ℕ, _+_}
 use mathlib.Core.List.{List, [], _∷_}
-use lib.ListN.{take, replicate}
+use lib.ListN.{take}
 use lib.Ieee.{Format}
+use Rattle.lexical_util.specs.Answer.{Answer, done, refused}
 use Rattle.lexical_rewrite_spec.specs.declared.text_format.TextFormat.{TextFormat}
-use Rattle.lexical_rewrite_spec.specs.Rewrite.{Rewriting, rewritten, readingRefused, writingRefused, readIn, rewriteAnswer, rewriteBytes}
-use Rattle.lexical_write_float_spec.specs.Write.{longestText}
-
--- a station: its format, and what its buffer holds before it writes
-pub record Station : Type 0 where
-  pub format : TextFormat
-  pub buffer : List ℕ
+use Rattle.lexical_rewrite_spec.specs.Rewrite.{Rewriting, rewritten, readingRefused, writingRefused, readIn, textIn, rewriteAnswer, rewriteBytes}
 
 -- what a chain answers: the length of the last text; or which station refused, counted from 0, in reading or in writing, with number and place
 pub data Chained : Type 0 where
@@ -26,6 +21,31 @@ atStation i (writingRefused n p) = writingRefusedAt i n p
 pub record Outcome : Type 0 where
   pub answer : Chained
   pub bytes : List ℕ
+
+-- the chain goes on with what was answered; a refusal ends it, and the bytes lent are as they were
+abbrev pub goesOn : {A : Type 0} → (ℕ → ℕ → Chained) → List ℕ → Answer A → (A → Outcome) → Outcome
+goesOn refusal out (done a) next = next a
+goesOn refusal out (refused n p) next = record { answer = refusal n p; bytes = out }
+
+-- the text t stands in the format F, and station i is the next: one reading of t under F, then one writing in G of the float read. Only that text and its format are handed on; the last station writes into the bytes lent.
+unfoldable pub chainFrom : Format → ℕ → TextFormat → List ℕ → TextFormat → List TextFormat → List ℕ → Outcome
+chainFrom f i F t G [] out = record { answer = atStation i (rewriteAnswer G out (readIn f F t)); bytes = rewriteBytes G out (readIn f F t) }
+chainFrom f i F t G (G' ∷ Gs) out = goesOn (readingRefusedAt i) out (readIn f F t) (λ x. goesOn (writingRefusedAt i) out (textIn G x) (λ text. chainFrom f (i + 1) G text G' Gs out))
+
+-- the text t, which stands in the format F, rewritten in G and then in each of Gs; stations are counted from 0
+abbrev pub chainOf : Format → TextFormat → List ℕ → TextFormat → List TextFormat → List ℕ → Outcome
+chainOf f F t G Gs out = chainFrom f 0 F t G Gs out
+
+-- the last of a list of formats that begins with this one
+abbrev pub lastFormat : TextFormat → List TextFormat → TextFormat
+lastFormat G [] = G
+lastFormat G (G' ∷ Gs) = lastFormat G' Gs
+
+-- ---- stations with buffers of their own, of which `ChainArrives` speaks
+-- a station: its format, and what its buffer holds before it writes
+pub record Station : Type 0 where
+  pub format : TextFormat
+  pub buffer : List ℕ
 
 -- the last station of a list that begins with this one
 abbrev pub lastStation : Station → List Station → Station
@@ -47,23 +67,3 @@ chain f i F t S [] = record {
 chain f i F t S (S' ∷ Ss) =
     onward i (lastStation S' Ss .buffer) (rewriteAnswer (S .format) (S .buffer) (readIn f F t))
     (λ n. chain f (i + 1) (S .format) (take n (rewriteBytes (S .format) (S .buffer) (readIn f F t))) S' Ss)
-
--- ---- the stations of a call that is lent the last one's buffer: each before it has a buffer of its own, of 2,275 bytes
-abbrev pub ownBuffer : List ℕ
-ownBuffer = replicate longestText 0
-
-abbrev pub stationOf : TextFormat → List TextFormat → List ℕ → Station
-stationOf G [] out = record { format = G; buffer = out }
-stationOf G (G' ∷ Gs) out = record { format = G; buffer = ownBuffer }
-
-abbrev pub stationsOf : List TextFormat → List ℕ → List Station
-stationsOf [] out = []
-stationsOf (G ∷ Gs) out = stationOf G Gs out ∷ stationsOf Gs out
-
-abbrev pub chainOf : Format → TextFormat → List ℕ → TextFormat → List TextFormat → List ℕ → Outcome
-chainOf f F t G Gs out = chain f 0 F t (stationOf G Gs out) (stationsOf Gs out)
-
--- the last of a list of formats that begins with this one
-abbrev pub lastFormat : TextFormat → List TextFormat → TextFormat
-lastFormat G [] = G
-lastFormat G (G' ∷ Gs) = lastFormat G' Gs

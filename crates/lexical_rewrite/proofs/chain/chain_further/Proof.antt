@@ -12,7 +12,7 @@ use Rattle.lexical_rewrite_spec.specs.Chain.{Outcome, atStation}
 use Rattle.lexical_rewrite_spec.proofs.StationLaws.{rewritten-fits}
 use Rattle.lexical_rewrite.specs.Answer.{ofRewritten}
 use Rattle.lexical_rewrite.specs.Code.{onFrom, sourceAt}
-use Rattle.lexical_rewrite.proofs.ChainLaws.{from-last, from-written, from-reading, from-writing, source-first, source-next}
+use Rattle.lexical_rewrite.proofs.ChainLaws.{from-last, from-more, source-first, source-next}
 use Rattle.lexical_rewrite.proofs.chain.chain_further.Statement.{statement}
 use Rattle.lexical_rewrite.proofs.chain.chain_further.Tie as tie
 use Rattle.lexical_write_float_spec.specs.Write.{longestText}
@@ -82,7 +82,7 @@ returns c =
     let source = w .before .before .before .source-at in
     let target = w .before .before .format-at in
     let told = sym (w .station-within .ensures .0) ∙ ap ofRewritten (c .before .refusal .given .1) in
-    let e = sym (left l (source .result) (source .ensures)) ∙ from-reading (ofWidth (a .width)) (s .station) (source .result) (take (s .count) (s .scratch)) (target .result) (a .further .now) (s .at) (a .buffer .now) (target .ensures) (s .scratch) (omega arith) (s .inv .0) _ _ told in
+    let e = sym (left l (source .result) (source .ensures)) ∙ from-more (ofWidth (a .width)) (s .station) (source .result) (take (s .count) (s .scratch)) (target .result) (a .further .now) (s .at) (a .buffer .now) (target .ensures) (s .scratch) (omega arith) (omega arith) told in
     (sym (ap (λ (o : Outcome). o .answer) e), sym (ap (λ (o : Outcome). o .bytes) e))
 
 enum-known-refusal-2 : tie.Need-enum-known-refusal-2 Inv-loop μ-loop
@@ -100,7 +100,7 @@ returns-2 c =
     let source = w .before .before .before .source-at in
     let target = w .before .before .format-at in
     let told = sym (w .station-within .ensures .0) ∙ ap ofRewritten (c .before .refusal2 .given .1) in
-    let e = sym (left l (source .result) (source .ensures)) ∙ from-writing (ofWidth (a .width)) (s .station) (source .result) (take (s .count) (s .scratch)) (target .result) (a .further .now) (s .at) (a .buffer .now) (target .ensures) (s .scratch) (omega arith) (s .inv .0) _ _ told in
+    let e = sym (left l (source .result) (source .ensures)) ∙ from-more (ofWidth (a .width)) (s .station) (source .result) (take (s .count) (s .scratch)) (target .result) (a .further .now) (s .at) (a .buffer .now) (target .ensures) (s .scratch) (omega arith) (omega arith) told in
     (sym (ap (λ (o : Outcome). o .answer) e), sym (ap (λ (o : Outcome). o .bytes) e))
 
 add-station : tie.Need-add-station Inv-loop μ-loop
@@ -122,7 +122,7 @@ loop-again c =
     let target = w .before .before .format-at in
     let n = c .before .next .given .0 .0 in
     let told = sym (w .station-within .ensures .0) ∙ ap ofRewritten (c .before .next .given .1) in
-    let e = from-written (ofWidth (a .width)) (s .station) (source .result) (take (s .count) (s .scratch)) (target .result) (a .further .now) (s .at) (a .buffer .now) (target .ensures) (s .scratch) (omega arith) (s .inv .0) n told in
+    let e = from-more (ofWidth (a .width)) (s .station) (source .result) (take (s .count) (s .scratch)) (target .result) (a .further .now) (s .at) (a .buffer .now) (target .ensures) (s .scratch) (omega arith) (omega arith) told in
     let few = rewritten-fits (target .result) (s .scratch) (readIn (ofWidth (a .width)) (source .result) (take (s .count) (s .scratch))) n told in
     (search needs, omega arith, omega arith, omega arith, rw (w .station-within .ensures .1, source-next (a .first) (a .further .now) (s .at) ∙ sym (target .ensures)) (sym e ∙ left l (source .result) (source .ensures)))
 
