@@ -1,7 +1,6 @@
 pub mod StoredLaws
 pub mod FloatLaws
 pub mod PowerLaws
-pub mod PutLaws
 pub mod PlanLaws
 pub mod TextLaws
 pub mod AnswerLaws

@@ -108,16 +108,6 @@ tailText Scientific mark negative plus radix n = powerText mark negative plus ra
 tailText Negative mark negative plus radix n = []
 tailText Positive mark negative plus radix n = []
 
--- ---- bytes put into a buffer
--- a text stands in the bytes from a place on, and all else is as it was
-unfoldable pub put : List ℕ → ℕ → List ℕ → List ℕ
-put held at t = take at held ++ (t ++ drop (at + length t) held)
-
--- after putting it: the next place, and what the bytes became
-pub record Puts (held : List ℕ) (at : ℕ) (t : List ℕ) (next : ℕ) (out : List ℕ) : Type 0 where
-  pub next-is : next ≡ at + length t
-  pub out-is : out ≡ put held at t
-
 -- ---- the text of a magnitude: of the float that has it
 abbrev pub magnitudeText : NumberFormat → Options → CheckedFormat → Magnitude → List ℕ
 magnitudeText F o checked v = let x = normal (v .mantissa) (v .exponent .0) in limitedText F o (checkedRow checked) (x .m) (x .e)

@@ -14,8 +14,8 @@ use Rattle.lexical_util.proofs.AnswerLaws.{refused-done, done-same, text-fits}
 use Rattle.lexical_write_integer_spec.specs.Digits.{numeral}
 use Rattle.lexical_write_integer_spec.proofs.DigitsLaws.{length-numeral, count-le}
 use Rattle.lexical_format.specs.declared.format.Pair.{Pair}
-use Rattle.lexical_write_float.specs.Code.{Puts}
-use Rattle.lexical_write_float.proofs.PutLaws.{put-front}
+use Rattle.lexical_buffer.specs.Put.{Puts}
+use Rattle.lexical_buffer.proofs.PutLaws.{put-front}
 use Rattle.lexical_rewrite_spec.specs.declared.text_format.TextFormat.{TextFormat}
 use Rattle.outage_spec.specs.Table.{tableSize, mostWindows}
 use Rattle.outage_spec.specs.Calls.{sheetFormat, tableSheet, sheetTable}

@@ -2,14 +2,15 @@
 use Prim.Native.Nat.{ℕ, _+_, _*_, _≤_}
 use mathlib.Core.Path.{_≡_, refl, sym, ap, _∙_}
 use mathlib.Core.List.{List, [], _∷_, _++_, append-assoc, append-nil}
+use native.Mathlib.Nat.{zero-add}
 use native.Mathlib.Omega.{arith}
 use lib.ListN.{length, take, drop, length-append}
 use lib.Seq.{take-at}
 use lib.Ieee.{binary64, toBits}
 use Rattle.lexical_util.specs.Answer.{Answer, done, refused, andThen, written, held}
 use Rattle.lexical_util.proofs.AnswerLaws.{refused-done, done-same, text-fits}
-use Rattle.lexical_write_float.specs.Code.{put}
-use Rattle.lexical_write_float.proofs.PutLaws.{put-nil, put-front}
+use Rattle.lexical_buffer.specs.Put.{placeBehind, nextPlace, heldFrom, put}
+use Rattle.lexical_buffer.proofs.PutLaws.{put-nil, put-front}
 use Rattle.outage_spec.specs.declared.window.Window.{Window}
 use Rattle.outage_spec.specs.Words.{toBytes}
 use Rattle.outage_spec.specs.Table.{tableSize, columnBytes, tableOf}
@@ -105,16 +106,18 @@ fill-end n i t = refl
 -- ---- the table, copied once all rows have been read
 module _ (n : ℕ) (d table : List ℕ) (room : tableSize n ≤ length d) (enough : tableSize n ≤ length table) where
   pub table-read : (rows : Answer (List Window)) → Counted n rows → (size : ℕ) → done size ≡ sizeOf n rows → (h t : List ℕ) → h ≡ putHeader d n → FilledTable n 0 h rows t
-      → (out : List ℕ) → out ≡ take size t ++ drop (length (take size t)) table → (done size ≡ written (tableFrom rows) table) × (out ≡ held (tableFrom rows) table)
-  table-read (refused k p) count size e h t g f out o = absurd (refused-done k p size (sym e))
-  table-read (done ws) count size e h t g f out o =
+      → (count : ℕ) (out : List ℕ) → (count ≡ nextPlace 0 (done (take size t)) table) × (out ≡ heldFrom 0 (done (take size t)) table)
+      → (done count ≡ written (tableFrom rows) table) × (out ≡ held (tableFrom rows) table)
+  table-read (refused k p) counted size e h t g f count out o = absurd (refused-done k p size (sym e))
+  table-read (done ws) counted size e h t g f count out o =
       let T = tableOf ws in
-      let long : length T ≡ tableSize n = table-length ws ∙ ap tableSize count in
+      let long : length T ≡ tableSize n = table-length ws ∙ ap tableSize counted in
       let same : size ≡ tableSize n = done-same size (tableSize n) e in
-      let all : t ≡ T ++ drop (length T) d = f ∙ ap (fill n 0 ws) g ∙ table-made ws d n count room ∙ put-front d T in
+      let all : t ≡ T ++ drop (length T) d = f ∙ ap (fill n 0 ws) g ∙ table-made ws d n counted room ∙ put-front d T in
       let part : take size t ≡ T = ap (take size) all ∙ take-at T (drop (length T) d) size (long ∙ sym same) in
-      let fits = text-fits T table (tableSize n) long enough in
-      (e ∙ sym (fits .0), o ∙ ap (λ (l : List ℕ). l ++ drop (length l) table) part ∙ ap (λ (k : ℕ). T ++ drop k table) long ∙ sym (fits .1))
+      let fits : written (done T) table ≡ done (tableSize n) = text-fits T table (tableSize n) long enough .0 in
+      let whole : count ≡ tableSize n = o .0 ∙ ap (λ (l : List ℕ). nextPlace 0 (done l) table) part ∙ ap (placeBehind 0) fits ∙ zero-add (tableSize n) in
+      (ap (λ (k : ℕ). done k) whole ∙ sym fits, o .1 ∙ ap (λ (l : List ℕ). heldFrom 0 (done l) table) part)
 
 pub table-refused : (rows : Answer (List Window)) (n k p : ℕ) (table : List ℕ) → refused k p ≡ sizeOf n rows
     → (refused k p ≡ written (tableFrom rows) table) × (table ≡ held (tableFrom rows) table)

@@ -1,14 +1,13 @@
--- Bytes put at places that do not touch, and bytes copied one by one. Assumes nothing.
-use Prim.Native.Nat.{ℕ, _+_, _≤_, _<_, zero-le}
+-- Bytes put at places that do not touch. Assumes nothing.
+use Prim.Native.Nat.{ℕ, _+_, _≤_, zero-le}
 use mathlib.Core.Path.{_≡_, refl, sym, ap, _∙_}
 use mathlib.Core.List.{List, _++_, append-assoc}
 use native.Mathlib.Nat.{zero-add}
-use native.Mathlib.Numerals.{add-one}
 use native.Mathlib.Omega.{arith}
-use lib.ListN.{length, take, drop, set, getD, length-append, length-drop, take-append-drop}
-use lib.Seq.{length-take-le, take-append-le, drop-append-le, take-append-seam, drop-append-add, take-suc, drop-cons, set-at, append-snoc}
-use Rattle.lexical_write_float.specs.Code.{put}
-use Rattle.lexical_write_float.proofs.PutLaws.{puts-more}
+use lib.ListN.{length, take, drop, length-append, length-drop, take-append-drop}
+use lib.Seq.{length-take-le, take-append-le, drop-append-le, take-append-seam, drop-append-add}
+use Rattle.lexical_buffer.specs.Put.{put}
+use Rattle.lexical_buffer.proofs.PutLaws.{puts-more}
 
 -- two puts, the second where the first ended
 pub put-more : (d : List ℕ) (at : ℕ) (t u : List ℕ) → at ≤ length d → put (put d at t) (at + length t) u ≡ put d at (t ++ u)
@@ -42,9 +41,3 @@ put-swap d a s b t h k =
     let w : a + length s ≤ length p = omega arith in
     rw (← take-append-drop b d) (ap (λ (l : List ℕ). put l a s) (put-right p q b t e) ∙ put-left p (put q 0 t) a s w
     ∙ sym (ap (λ (l : List ℕ). put l b t) (put-left p q a s w) ∙ put-right (put p a s) q b t (put-length p a s w ∙ e)))
-
--- one byte more copied
-pub copy-more : (s d t : List ℕ) (i : ℕ) → t ≡ take i s ++ drop i d → i < length s → length s ≤ length d → set t i (getD s i 0) ≡ take (i + 1) s ++ drop (i + 1) d
-copy-more s d t i e h k =
-    rw (e, drop-cons d i 0 (omega arith), add-one, take-suc s i 0 h)
-    (set-at (take i s) (getD d i 0) _ (getD s i 0) i (length-take-le i s (omega arith)) ∙ sym (append-snoc (take i s) (getD s i 0) _))

@@ -7,7 +7,7 @@ use lib.Dec.{T}
 use lib.ListN.{length}
 use lib.Ieee.{binary64, toBits, isNan}
 use Rattle.lexical_util.specs.Answer.{Answer, done, refused}
-use Rattle.lexical_write_float.specs.Code.{put}
+use Rattle.lexical_buffer.specs.Put.{put}
 use Rattle.outage_spec.specs.declared.window.Window.{Window}
 use Rattle.outage_spec.specs.Words.{toBytes}
 use Rattle.outage_spec.specs.Table.{headerSize, floatSize, tableSize}

@@ -1,9 +1,8 @@
 // A table's bytes, little endian.
 ghost use mathlib.Core.Path.{_≡_};
-ghost use mathlib.Core.List.{_++_};
 ghost use Prim.Native.Nat.{_+_, _≤_, _<_};
-ghost use lib.ListN.{length, drop};
-ghost use Rattle.lexical_write_float.specs.Code.{put};
+ghost use lib.ListN.{length};
+ghost use Rattle.lexical_buffer.specs.Put.{put};
 ghost use Rattle.outage_spec.specs.Words.{toBytes};
 ghost use Rattle.outage_spec.specs.Table.{tableSize, mostWindows};
 ghost use Rattle.outage_sheet.specs.Fill.{Stored, putWindow, putHeader};
@@ -52,16 +51,4 @@ pub(crate) fn put_window(table: &mut [u8], n: usize, i: usize, window: Window)
         f64::to_bits(window.end),
         FLOAT_SIZE,
     );
-}
-
-// All bytes of one slice to the front of another.
-pub(crate) fn copy(source: &[u8], target: &mut [u8])
-    requires { ⌜ length (now source) ≤ length (now target) ⌝ }
-    ensures { λ _. ⌜ now (target .exit) ≡ now (source .entry) ++ drop (length (now (source .entry))) (now (target .entry)) ⌝ }
-{
-    let mut at: usize = 0;
-    while at < source.len() {
-        target[at] = source[at];
-        at += 1;
-    }
 }

@@ -9,9 +9,9 @@ ghost use Rattle.outage_spec.specs.Sheet.{linesFrom};
 ghost use Rattle.outage_spec.specs.Calls.{countedTable, sheetTable};
 ghost use Rattle.outage_sheet.specs.Fill.{FilledTable};
 use crate::row::row_in;
-use crate::store::copy;
 use crate::store::put_header;
 use crate::store::put_window;
+use lexical_buffer::put_bytes;
 use lexical_format::NumberFormat;
 use lexical_format::Options;
 use lexical_format::ReadingCheck;
@@ -84,10 +84,7 @@ fn read_table(
     let mut rows = [0u8; LONGEST_TABLE];
     put_header(&mut rows, n);
     match read_rows(sheet, from, n, format, options, &mut rows) {
-        Written::Length(size) => {
-            copy(&rows[..size], table);
-            Written::Length(size)
-        }
+        Written::Length(size) => Written::Length(put_bytes(table, 0, &rows[..size])),
         Written::Refused(refusal) => Written::Refused(refusal),
     }
 }

@@ -10,8 +10,8 @@ use Rattle.lexical_util.specs.Answer.{Answer, done, refused, andThen}
 use Rattle.lexical_util.proofs.AnswerLaws.{refused-done}
 use Rattle.lexical_format.specs.declared.format.NumberFormat.{NumberFormat}
 use Rattle.lexical_format.specs.declared.options.Options.{Options}
-use Rattle.lexical_write_float.specs.Code.{Puts}
-use Rattle.lexical_write_float.proofs.PutLaws.{puts-none, puts-more}
+use Rattle.lexical_buffer.specs.Put.{Puts}
+use Rattle.lexical_buffer.proofs.PutLaws.{puts-none, puts-more}
 use Rattle.outage_spec.specs.declared.window.Window.{Window}
 use Rattle.outage_spec.specs.Table.{rowAt, rowsFrom}
 use Rattle.outage_spec.proofs.FormatLaws.{taken}

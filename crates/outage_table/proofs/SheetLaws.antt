@@ -18,8 +18,8 @@ use Rattle.lexical_format.specs.declared.format.NumberFormat.{NumberFormat}
 use Rattle.lexical_format.specs.declared.format.Pair.{Pair}
 use Rattle.lexical_format.specs.declared.options.Options.{Options}
 use Rattle.lexical_format.specs.Format.{settled}
-use Rattle.lexical_write_float.specs.Code.{Puts}
-use Rattle.lexical_write_float.proofs.PutLaws.{puts-more, put-front}
+use Rattle.lexical_buffer.specs.Put.{Puts}
+use Rattle.lexical_buffer.proofs.PutLaws.{puts-more, put-front}
 use Rattle.outage_spec.specs.declared.window.Window.{Window}
 use Rattle.outage_spec.specs.Table.{tableCount, rowsFrom, tableWindows, mostWindows}
 use Rattle.outage_spec.specs.Sheet.{rowsText, sheetOf}

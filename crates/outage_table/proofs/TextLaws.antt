@@ -15,8 +15,8 @@ use Rattle.lexical_format.specs.declared.options.Options.{Options}
 use Rattle.lexical_format.specs.Format.{writingFormat}
 use Rattle.lexical_write_float_spec.specs.Write.{writeText, longestText}
 use Rattle.lexical_write_float_spec.proofs.WriteLaws.{longest-text}
-use Rattle.lexical_write_float.specs.Code.{Puts}
-use Rattle.lexical_write_float.proofs.PutLaws.{puts-more}
+use Rattle.lexical_buffer.specs.Put.{Puts}
+use Rattle.lexical_buffer.proofs.PutLaws.{puts-more}
 use Rattle.outage_spec.specs.declared.window.Window.{Window}
 use Rattle.lexical_float.specs.Parts.{isPlain}
 use Rattle.outage_spec.proofs.TextLaws.{plain-text}

@@ -4,9 +4,11 @@ ghost use mathlib.Core.List.{_∷_, [], _++_};
 ghost use Prim.Native.Nat.{_+_, _≤_, _<_, _*_};
 ghost use lib.ListN.{length};
 ghost use Rattle.lexical_write_integer_spec.specs.Digits.{numeral};
-ghost use Rattle.lexical_write_float.specs.Code.{Puts};
+ghost use Rattle.lexical_buffer.specs.Put.{Puts};
 ghost use Rattle.outage_table.specs.Text.{textOf, rowOf, HasText, HasTexts};
 ghost use Rattle.lexical_write_float_spec.specs.Write.{longestText};
+use lexical_buffer::put_byte;
+use lexical_buffer::put_number;
 use lexical_format::NumberFormat;
 use lexical_format::Options;
 use lexical_util::Written;
@@ -45,14 +47,6 @@ pub(crate) fn row_length(
     start + end + 2
 }
 
-fn put_byte(sheet: &mut [u8], at: usize, byte: u8) -> usize
-    requires { ⌜ at < length (now sheet) ⌝ }
-    ensures { λ r. ⌜ Puts (now (sheet .entry)) at (byte ∷ []) r (now (sheet .exit)) ⌝ }
-{
-    sheet[at] = byte;
-    at + 1
-}
-
 // A float's text from a place on.
 fn put_text(sheet: &mut [u8], at: usize, x: f64, format: NumberFormat, options: Options) -> usize
     requires { ⌜ HasText format options x × (at + length (textOf format options x) ≤ length (now sheet)) ⌝ }
@@ -85,8 +79,6 @@ pub(crate) fn put_count(sheet: &mut [u8], count: usize) -> usize
     requires { ⌜ length (numeral 10 count) + 1 ≤ length (now sheet) ⌝ }
     ensures { λ r. ⌜ Puts (now (sheet .entry)) 0 (numeral 10 count ++ (10 ∷ [])) r (now (sheet .exit)) ⌝ }
 {
-    match lexical_write_integer::write_integer(count as u64, 10, sheet) {
-        Written::Length(digits) => put_byte(sheet, digits, b'\n'),
-        Written::Refused(_) => 0,
-    }
+    let newline = put_number(sheet, 0, count as u64, 10);
+    put_byte(sheet, newline, b'\n')
 }

@@ -6,7 +6,7 @@ ghost use lib.Dec.{leb};
 ghost use lib.ListN.{length};
 ghost use Rattle.lexical_util.specs.Answer.{done, andThen, written, held, ofWritten};
 ghost use Rattle.lexical_write_integer_spec.specs.Digits.{numeral};
-ghost use Rattle.lexical_write_float.specs.Code.{Puts};
+ghost use Rattle.lexical_buffer.specs.Put.{Puts};
 ghost use Rattle.outage_spec.specs.Table.{tableSize, rowsFrom, tableWindows, mostWindows};
 ghost use Rattle.outage_spec.specs.Sheet.{sheetOf};
 ghost use Rattle.outage_spec.specs.Calls.{tableSheet, LongestSheet, WayBack};

@@ -7,7 +7,7 @@ use lib.ListN.{length}
 use Rattle.lexical_write_integer_spec.specs.Write.{lastNumeral, mantissaText}
 use Rattle.lexical_write_integer_spec.proofs.LastLaws.{length-last}
 use Rattle.lexical_write_integer_spec.proofs.MantissaAnswer.{asked}
-use Rattle.lexical_write_float.proofs.PutLaws.{part-count, part-puts, part-refused}
+use Rattle.lexical_buffer.proofs.PutLaws.{part-count, part-puts, part-refused}
 use borrow.Author.Needs.{needs}
 use Rattle.lexical_write_float.proofs.pieces.put_digits.Statement.{statement}
 use Rattle.lexical_write_float.proofs.pieces.put_digits.Tie as tie

@@ -7,6 +7,7 @@ use borrow.Author.Needs.{needs}
 use lib.Pow.{pow-pos}
 use Rattle.lexical_write_integer_spec.specs.Write.{lastNumeral}
 use Rattle.lexical_write_integer.proofs.FillLaws.{shifted}
+use Rattle.lexical_buffer.proofs.PutLaws.{text-puts}
 use Rattle.lexical_write_float.proofs.OneDigit.{one-last}
 use Rattle.lexical_write_float.proofs.pieces.put_leading.Statement.{statement}
 use Rattle.lexical_write_float.proofs.pieces.put_leading.Tie as tie
@@ -29,14 +30,15 @@ is c =
     let z = shifted b (omega (arith, s .pre .1)) in
     one-last b (s .args .value) _ (s .args .count) (c .digit-byte .result) (s .pre .1) (let m : (1 * 2 ^ b) % 2 ^ 64 - 1 + 1 ≡ 2 ^ b = omega arith in m) (c .before .if1 .taken) (c .digit-byte .ensures)
 
-put-byte-requires : tie.Need-put-byte-requires
-put-byte-requires c κs = let t = c .before .before in omega (arith, t .before .before .pre .2, t .if1 .taken)
-
 same-length : tie.Need-same-length
 same-length c = search needs
 
 returns : tie.Need-returns
-returns c = let p = c .before .before in rw (is (p .before .before)) at (p .put-byte .ensures)
+returns c =
+    let p = c .before .before in
+    let t = p .before .before .before in
+    let s = t .before .before in
+    rw (is (p .before .before)) at (text-puts (s .args .buffer .now) (s .args .at) (_ ∷ []) _ _ (omega (arith, s .pre .2, t .if1 .taken)) (p .put-byte .ensures))
 
 put-digits-requires : tie.Need-put-digits-requires
 put-digits-requires c κs = c .before .before .before .pre
@@ -54,7 +56,7 @@ put-leading-spec =
     shl-mask
     sub-mask
     digit-byte-requires
-    put-byte-requires
+    (λ c κs. search needs)
     same-length
     returns
     put-digits-requires

@@ -3,9 +3,9 @@ use Prim.Native.Nat.{ℕ, _-_, _≤_}
 use mathlib.Core.Path.{_≡_, refl, sym}
 use native.Mathlib.Omega.{arith}
 use lib.ListN.{length, length-set, length-replicate, replicate-append-replicate}
-use Rattle.lexical_write_float.specs.Code.{put}
+use Rattle.lexical_buffer.specs.Put.{put}
 use Rattle.lexical_write_float_spec.specs.Text.{zeros}
-use Rattle.lexical_write_float.proofs.PutLaws.{put-nil, put-next}
+use Rattle.lexical_buffer.proofs.PutLaws.{put-nil, put-next}
 use Rattle.lexical_write_float.proofs.pieces.put_zeros.Statement.{statement}
 use Rattle.lexical_write_float.proofs.pieces.put_zeros.Tie as tie
 

@@ -4,7 +4,7 @@ use Prim.Native.Nat.{ℕ, _+_, _-_, _*_, _≤_, _<_, zero-le}
 use native.Mathlib.Omega.{arith}
 use lib.ListN.{length, length-replicate}
 use Rattle.lexical_write_float.specs.Code.{digitsOf, fractionText, planText}
-use Rattle.lexical_write_float.proofs.PutLaws.{puts-more}
+use Rattle.lexical_buffer.proofs.PutLaws.{puts-more}
 use Rattle.lexical_write_float.proofs.PlanLaws.{plan-length}
 use Rattle.lexical_write_integer_spec.proofs.LastLaws.{length-last}
 use Rattle.lexical_write_integer_spec.proofs.SplitLaws.{front, shift-small}

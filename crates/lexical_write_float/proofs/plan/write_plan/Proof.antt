@@ -7,7 +7,7 @@ use native.Mathlib.Omega.{arith}
 use lib.Dec.{leb}
 use lib.ListN.{length, length-append}
 use Rattle.lexical_write_float.specs.Code.{digitsOf, planText, tailText}
-use Rattle.lexical_write_float.proofs.PutLaws.{puts-more, kept, short-held}
+use Rattle.lexical_buffer.proofs.PutLaws.{puts-more, kept, short-held}
 use borrow.Author.Needs.{needs}
 use borrow.Author.Tests.{not-true, not-false, leb-true, leb-false}
 use Rattle.lexical_write_float.proofs.plan.write_plan.Statement.{statement}

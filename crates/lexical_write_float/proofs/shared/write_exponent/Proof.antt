@@ -1,9 +1,12 @@
 -- `lexical_write_float::shared::write_exponent` meets its contract: mark, sign and digits, each where the one before it ended, and nothing where the layout has no exponent. Assumes nothing.
 use native.Mathlib.Omega.{arith}
+use Rattle.lexical_buffer.specs.Put.{Puts}
 use Rattle.lexical_write_float.specs.Code.{powerText, signText}
 use Rattle.lexical_write_float.proofs.PowerLaws.{tail-length}
-use Rattle.lexical_write_float.proofs.PutLaws.{puts-more, puts-none}
+use Rattle.lexical_buffer.proofs.PutLaws.{puts-more, puts-none, text-puts}
+use Rattle.lexical_buffer.proofs.FewDigits.{number-puts}
 use Prim.Native.Nat.{_+_, _≤_}
+use mathlib.Core.List.{[], _∷_}
 use lib.ListN.{length}
 use Rattle.lexical_write_integer_spec.specs.Digits.{numeral}
 use borrow.Author.Needs.{needs}
@@ -19,18 +22,21 @@ room c = let a = start c .args in omega (arith, start c .pre .1, tail-length (a 
 enum-told : tie.Need-enum-told
 enum-told c = search needs
 
-put-byte-requires : tie.Need-put-byte-requires
-put-byte-requires c κs = omega (arith, room (c .before))
+mark-put : (p : tie.After-put-byte) → let a = start (p .before .before) .args in Puts (a .buffer .now) (a .at) (a .mark ∷ []) (p .put-byte .result) (p .put-byte .last .0)
+mark-put p = let a = start (p .before .before) .args in text-puts (a .buffer .now) (a .at) (a .mark ∷ []) _ _ (omega (arith, room (p .before .before))) (p .put-byte .ensures)
 
 write-exponent-sign-requires : tie.Need-write-exponent-sign-requires
-write-exponent-sign-requires c κs = let p = c .before .before .before in omega (arith, room (p .before .before), p .put-byte .ensures .next-is)
+write-exponent-sign-requires c κs = let p = c .before .before .before in omega (arith, room (p .before .before), mark-put p .next-is)
 
-put-number-requires : tie.Need-put-number-requires
-put-number-requires c κs =
-    let g = c .before .before .before in
+-- the digits have room behind mark and sign
+number-put : (i : tie.After-put-number) → let g = i .before .before .before .before in let a = start (g .before .before .before .before .before .before) .args in
+    Puts (g .write-exponent-sign .last .0) (g .write-exponent-sign .result) (numeral (a .radix) (a .exponent .1)) (i .put-number .result) (i .put-number .last .0)
+number-put i =
+    let g = i .before .before .before .before in
     let p = g .before .before .before .before in
     let t = p .before .before in
-    (start t .pre .0, omega (arith, room t, p .put-byte .ensures .next-is, g .write-exponent-sign .ensures .next-is))
+    let a = start t .args in
+    number-puts (a .radix) (a .exponent .1) (start t .pre .0) (g .write-exponent-sign .last .0) (g .write-exponent-sign .result) _ _ (omega (arith, room t, mark-put p .next-is, g .write-exponent-sign .ensures .next-is)) (i .put-number .ensures)
 
 enum-told-2 : tie.Need-enum-told-2
 enum-told-2 c = search needs
@@ -49,7 +55,7 @@ returns c =
     let p = g .before .before .before .before in
     let t = p .before .before in
     rw (t .enum-told .given .1)
-    (puts-more _ _ _ (omega (arith, room t)) (puts-more _ _ _ (omega (arith, room t)) (p .put-byte .ensures) (g .write-exponent-sign .ensures)) (i .put-number .ensures))
+    (puts-more _ _ _ (omega (arith, room t)) (puts-more _ _ _ (omega (arith, room t)) (mark-put p) (g .write-exponent-sign .ensures)) (number-put i))
 
 returns-2 : tie.Need-returns-2
 returns-2 c = rw (c .enum-told2 .given .1) (puts-none _ _)
@@ -62,9 +68,9 @@ write-exponent-spec =
     tie.close
     (tie.spec
     enum-told
-    put-byte-requires
+    (λ c κs. search needs)
     write-exponent-sign-requires
-    put-number-requires
+    (λ c κs. search needs)
     enum-told-2
     enum-told-3
     same-length

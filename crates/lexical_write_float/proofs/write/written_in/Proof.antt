@@ -3,7 +3,7 @@ use mathlib.Core.Path.{sym, ap, _∙_}
 use Prim.Native.Nat.{ℕ}
 use native.Mathlib.Omega.{arith}
 use Rattle.lexical_util.specs.Answer.{done}
-use Rattle.lexical_write_float.proofs.PutLaws.{answered, short}
+use Rattle.lexical_buffer.proofs.PutLaws.{answered, short}
 use Rattle.lexical_write_float.proofs.write.written_in.Statement.{statement}
 use Rattle.lexical_write_float.proofs.write.written_in.Tie as tie
 

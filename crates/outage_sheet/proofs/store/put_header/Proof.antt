@@ -2,7 +2,7 @@
 use Prim.Native.Nat.{ℕ}
 use mathlib.Core.Path.{ap, _∙_}
 use mathlib.Core.List.{List}
-use Rattle.lexical_write_float.specs.Code.{put}
+use Rattle.lexical_buffer.specs.Put.{put}
 use Rattle.outage_spec.specs.Words.{toBytes}
 use Rattle.outage_spec.specs.Table.{tableSize}
 use borrow.Author.Needs.{needs}

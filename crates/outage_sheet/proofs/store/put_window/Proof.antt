@@ -3,7 +3,7 @@ use Prim.Native.Nat.{ℕ, _+_, _*_}
 use mathlib.Core.Path.{ap, _∙_}
 use mathlib.Core.List.{List}
 use lib.Ieee.{binary64, toBits}
-use Rattle.lexical_write_float.specs.Code.{put}
+use Rattle.lexical_buffer.specs.Put.{put}
 use Rattle.outage_spec.specs.Words.{toBytes}
 use borrow.Author.Needs.{needs}
 use Rattle.outage_sheet.proofs.store.put_window.Statement.{statement}

@@ -6,8 +6,8 @@ use native.Mathlib.Nat.{add-zero, add-assoc}
 use native.Mathlib.Omega.{arith}
 use borrow.Author.Needs.{needs}
 use lib.ListN.{length, length-set}
-use Rattle.lexical_write_float.specs.Code.{put}
-use Rattle.lexical_write_float.proofs.PutLaws.{put-nil, put-one}
+use Rattle.lexical_buffer.specs.Put.{put}
+use Rattle.lexical_buffer.proofs.PutLaws.{put-nil, put-one}
 use Rattle.outage_spec.specs.Words.{toBytes}
 use Rattle.outage_spec.proofs.WordLaws.{bytes-more, bytes-none}
 use Rattle.outage_sheet.proofs.StoreLaws.{put-more}

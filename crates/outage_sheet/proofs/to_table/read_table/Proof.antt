@@ -50,16 +50,10 @@ enum-known-size : tie.Need-enum-known-size
 enum-known-size c = search needs
 
 array-share-prefix-rows : tie.Need-array-share-prefix-rows
-array-share-prefix-rows c = omega (arith, size-is (c .before))
+array-share-prefix-rows c = omega (arith, size-is (c .before .before))
 
-slice-aggregate-copy : tie.Need-slice-aggregate-copy
-slice-aggregate-copy c = sym (length-take-le _ _ (omega (arith, size-is (c .before .before))))
-
-copy-requires : tie.Need-copy-requires
-copy-requires c κs =
-    let k = c .before .before .before in
-    let z = size-is k in
-    omega (arith, z, length-take-le (k .size .given .0 .0) (k .before .before .before .read-rows .last .1 .1 .1 .1 .1 .0) (omega (arith, z)))
+slice-aggregate-put-bytes : tie.Need-slice-aggregate-put-bytes
+slice-aggregate-put-bytes c = sym (length-take-le _ _ (omega (arith, size-is (c .before .before .before))))
 
 enum-known-refusal : tie.Need-enum-known-refusal
 enum-known-refusal c = search needs
@@ -74,7 +68,7 @@ returns c =
     let a = start r .args in
     table-read (a .n) (replicate {A = ℕ} (tableSize mostWindows) 0) (a .table .now) (omega (arith, length-replicate {A = ℕ} (tableSize mostWindows) 0)) (omega arith) (rows r)
     (lines-counted (a .format) (a .options) (a .n) (a .from) none (drop (a .from) (a .sheet .now)))
-    (k .size .given .0 .0) (read k) _ _ (r .before .before .before .put-header .ensures) (r .read-rows .ensures .1) _ (c .before .before .copy .ensures)
+    (k .size .given .0 .0) (read k) _ _ (r .before .before .before .put-header .ensures) (r .read-rows .ensures .1) _ _ (c .before .before .put-bytes .ensures)
 
 returns-2 : tie.Need-returns-2
 returns-2 c =
@@ -92,8 +86,8 @@ read-table-spec =
     read-rows-requires
     enum-known-size
     array-share-prefix-rows
-    slice-aggregate-copy
-    copy-requires
+    slice-aggregate-put-bytes
+    (λ c κs. search needs)
     enum-known-refusal
     same-length
     returns

@@ -3,7 +3,7 @@ use mathlib.Core.Path.{sym, ap, _∙_}
 use native.Mathlib.Omega.{arith}
 use borrow.Author.Needs.{needs}
 use Rattle.lexical_util.specs.Answer.{ofWritten}
-use Rattle.lexical_write_float.proofs.PutLaws.{part-count, part-puts, part-refused}
+use Rattle.lexical_buffer.proofs.PutLaws.{part-count, part-puts, part-refused}
 use Rattle.outage_table.proofs.print.put_text.Statement.{statement}
 use Rattle.outage_table.proofs.print.put_text.Tie as tie
 

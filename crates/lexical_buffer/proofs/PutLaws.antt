@@ -1,19 +1,19 @@
 -- The laws of `put` and `Puts`: puts, each where the one before it ended, are one put of the texts joined. Assumes nothing.
-use Prim.Native.Nat.{ℕ, suc, _+_, _-_, _≤_, _<_}
+use Prim.Native.Nat.{ℕ, suc, _+_, _-_, _≤_, _<_, zero-le}
 use mathlib.Core.Path.{_≡_, refl, sym, ap, _∙_}
-use mathlib.Core.Bool.{true}
+use mathlib.Core.Bool.{Bool, true, false, cond}
 use mathlib.Core.List.{List, [], _∷_, _++_, append-assoc, append-nil}
 use native.Mathlib.Nat.{add-zero, zero-add, add-assoc, add-suc, add-sub-of-le}
 use native.Mathlib.Numerals.{add-one}
 use native.Mathlib.Omega.{arith}
-use borrow.Author.Tests.{le-leb, lt-leb}
+use borrow.Author.Tests.{le-leb, lt-leb, leb-true}
 use borrow.Rule.Slice.PartAt.{part-to-end}
 use lib.Dec.{leb}
 use lib.ListN.{length, take, drop, set, getD, length-append, length-drop, take-append-drop}
 use lib.Seq.{set-split, drop-cons, set-at, length-take-le, take-at, drop-append-add, drop-drop, drop-length}
 use Rattle.lexical_util.specs.Answer.{Answer, done, refused, written, held}
-use Rattle.lexical_util.proofs.AnswerLaws.{refused-done, done-same}
-use Rattle.lexical_write_float.specs.Code.{put, Puts}
+use Rattle.lexical_util.proofs.AnswerLaws.{refused-done, done-same, text-short}
+use Rattle.lexical_buffer.specs.Put.{placeBehind, nextPlace, heldFrom, put, Puts}
 
 -- nothing put
 pub put-nil : (d : List ℕ) (at : ℕ) → put d at [] ≡ d
@@ -108,3 +108,54 @@ short t d h = rw (lt-leb (length t) (length d) h) refl
 
 pub short-held : (t d : List ℕ) → length d < length t → d ≡ held (done t) d
 short-held t d h = rw (lt-leb (length t) (length d) h) refl
+
+-- ---- what a call that puts a text from a place on answers and leaves: where the text has room, it is put
+module _ (asked : Answer (List ℕ)) (t d : List ℕ) (at : ℕ) (e : asked ≡ done t) where
+  pub put-place : at + length t ≤ length d → nextPlace at asked d ≡ at + length t
+  put-place h = rw (e, room t (drop at d) (simp length-drop (omega arith)))
+
+  pub put-held : at + length t ≤ length d → heldFrom at asked d ≡ put d at t
+  unfolding put
+  put-held h = rw (e, room t (drop at d) (simp length-drop (omega arith)), drop-drop (length t) at d)
+
+  pub puts-in : at + length t ≤ length d → (r : ℕ) (o : List ℕ) → r ≡ nextPlace at asked d → o ≡ heldFrom at asked d → Puts d at t r o
+  puts-in h r o p q = record { next-is = p ∙ put-place h; out-is = q ∙ put-held h }
+
+-- where it has none, all stays
+short-done : (t d : List ℕ) (at : ℕ) → length d < at + length t → (nextPlace at (done t) d ≡ at) × (heldFrom at (done t) d ≡ d)
+short-done [] d at h = rw (le-leb 0 (length (drop at d)) zero-le) (add-zero at, take-append-drop at d)
+short-done (x ∷ xs) d at h =
+    let s = text-short (x ∷ xs) (drop at d) (length (x ∷ xs)) refl (simp length-drop (omega arith)) in
+    (ap (placeBehind at) (s .0), ap (λ (l : List ℕ). take at d ++ l) (s .1) ∙ take-append-drop at d)
+
+pub short-put : (asked : Answer (List ℕ)) (t d : List ℕ) (at : ℕ) → asked ≡ done t → length d < at + length t → (nextPlace at asked d ≡ at) × (heldFrom at asked d ≡ d)
+short-put asked t d at e h = rw e (short-done t d at h)
+
+-- a text that was written has no more bytes than were lent
+written-within : (asked : Answer (List ℕ)) (out : List ℕ) (n : ℕ) → done n ≡ written asked out → n ≤ length out
+written-within (done t) out n w = go (leb (length t) (length out)) refl w
+  where
+    go : (b : Bool) → leb (length t) (length out) ≡ b → done n ≡ cond b (done (length t)) (refused 8 0) → n ≤ length out
+    go true e q = omega (arith, done-same n (length t) q, leb-true (length t) (length out) e)
+    go false e q = absurd (refused-done 8 0 n (sym q))
+written-within (refused m p) out n w = absurd (refused-done m p n (sym w))
+
+-- a call that was lent the part from the place on
+module _ (asked : Answer (List ℕ)) (d : List ℕ) (at : ℕ) where
+  pub part-answered : (n : ℕ) → done n ≡ written asked (take (length d - at) (drop at d)) → at + n ≡ nextPlace at asked d
+  part-answered n w = ap (placeBehind at) (w ∙ ap (written asked) (part-to-end d at))
+
+  -- whose text lies within it
+  pub part-within : (n : ℕ) → at ≤ length d → done n ≡ written asked (take (length d - at) (drop at d)) → at + n ≤ length d
+  part-within n h w = let k = written-within asked (take (length d - at) (drop at d)) n w in omega (arith, k, length-take-le (length d - at) (drop at d) (simp length-drop (omega arith)))
+
+  pub part-stays : (n p : ℕ) → refused n p ≡ written asked (take (length d - at) (drop at d)) → at ≡ nextPlace at asked d
+  part-stays n p w = ap (placeBehind at) (w ∙ ap (written asked) (part-to-end d at))
+
+  pub part-held : (l : List ℕ) → at ≤ length d → l ≡ held asked (take (length d - at) (drop at d))
+      → take at d ++ (l ++ drop (length d - at) (drop at d)) ≡ heldFrom at asked d
+  part-held l h k = rw (k, part-to-end d at, drop-drop (length d - at) at d, add-sub-of-le h, drop-length, append-nil)
+
+-- what `put_byte` and `put_bytes` do where there is room
+pub text-puts : (d : List ℕ) (at : ℕ) (t : List ℕ) (r : ℕ) (o : List ℕ) → at + length t ≤ length d → (r ≡ nextPlace at (done t) d) × (o ≡ heldFrom at (done t) d) → Puts d at t r o
+text-puts d at t r o h e = puts-in (done t) t d at refl h r o (e .0) (e .1)
