@@ -1,4 +1,5 @@
--- Where the fields of a bit pattern stand, as the code keeps it for each width. Definitions only.
+-- A width's format, and where the fields of its bit patterns stand, as the code keeps it. Document 01 has no such struct: `encoding_of`, which the crates that take floats apart and make them share,
+-- answers it, and no other exported contract cites it. Definitions only.
 use Prim.Native.Nat.{ℕ, suc, _+_, _-_, _*_}
 use mathlib.Core.Bool.{Bool, true, false}
 use lib.IntN.{pos}
@@ -11,6 +12,7 @@ abbrev pub ofWidth : Width → Format
 ofWidth Binary32 = binary32
 ofWidth Binary64 = binary64
 
+-- inner: the numbers of a width, under the names that the Rust has for them
 abbrev pub encodingOf : Format → Encoding
 encodingOf f =
     record {
@@ -22,7 +24,7 @@ encodingOf f =
       «denormal_exponent» = record { 0 = minus 0 (low f) };
     }
 
--- a bit pattern: the sign, and the bits n below it
+-- inner: a bit pattern, by the sign and the bits n below it
 abbrev pub bitsOf : Format → Bool → ℕ → ℕ
 bitsOf f true n = top f + n
 bitsOf f false n = n

@@ -6,13 +6,13 @@ use mathlib.Core.List.{List, [], _∷_, _++_}
 use native.Mathlib.Omega.{arith}
 use borrow.Author.Tests.{ltb-false, lt-ltb, le-ltb}
 use lib.Dec.{ltb, eqb}
-use lib.IntN.{ℤ, pos, negsuc}
+use lib.IntN.{ℤ, pos, negsuc, negℤ}
 use lib.Pow.{pow-mono}
 use lib.ListN.{length, drop, length-drop}
 use Rattle.lexical_util.proofs.RadixLaws.{radix-bounds}
 use Rattle.lexical_format.specs.declared.options.RoundMode.{RoundMode}
 use Rattle.lexical_format.specs.declared.options.RoundMode.the-variants.{Round, Truncate}
-use Rattle.lexical_format.specs.Format.{orAbsent, lowBreak, outside, badBreaks}
+use Rattle.lexical_format.specs.Format.{orAbsent, lowBreak, outside, farthestBreak, badBreaks}
 use Rattle.lexical_format.proofs.FormatLaws.{neither, writable}
 use Rattle.lexical_rewrite_spec.specs.declared.text_format.TextFormat.{TextFormat}
 use Rattle.lexical_rewrite_spec.specs.Record.{twosComplement, numberFormatOfRecord, optionsOfRecord, formatOfRecord, recordsOf, formatsOf, flagByte, modeByte, wordOf, recordOf, joined, FitsWord, recordSize}
@@ -122,14 +122,14 @@ records-are-read-back (G ∷ Gs) all =
     ∙ rw (record-is-read-back G (joined Gs) (all .0), behind-record G (joined Gs), records-are-read-back Gs (all .1))
 
 -- ---- the fields of an admitted format
-low-fits : (z : ℤ) → outside (negsuc 1999) (negsuc 0) (orAbsent (negsuc 4) z) ≡ false → FitsWord z
+low-fits : (z : ℤ) → outside (negℤ (pos farthestBreak)) (negsuc 0) (orAbsent (negsuc 4) z) ≡ false → FitsWord z
 low-fits (pos zero) e = omega arith
 low-fits (pos (suc n)) e = absurd (let z : _≡_ {A = ℕ} 0 1 = cc in omega arith)
-low-fits (negsuc n) e = let h = ltb-false 1999 n (neither (ltb 1999 n) _ e .0) in omega arith
+low-fits (negsuc n) e = let h = ltb-false (farthestBreak - 1) n (neither (ltb (farthestBreak - 1) n) _ e .0) in omega arith
 
-high-fits : (z : ℤ) → outside (pos 1) (pos 2000) (orAbsent (pos 9) z) ≡ false → FitsWord z
+high-fits : (z : ℤ) → outside (pos 1) (pos farthestBreak) (orAbsent (pos 9) z) ≡ false → FitsWord z
 high-fits (pos zero) e = omega arith
-high-fits (pos (suc n)) e = let h = ltb-false 2000 (suc n) (neither (ltb (suc n) 1) _ e .1) in omega arith
+high-fits (pos (suc n)) e = let h = ltb-false farthestBreak (suc n) (neither (ltb (suc n) 1) _ e .1) in omega arith
 high-fits (negsuc n) e = absurd (let z : _≡_ {A = ℕ} 0 1 = cc in omega arith)
 
 pub admitted-fits : AdmittedFits

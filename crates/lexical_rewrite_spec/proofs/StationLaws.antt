@@ -1,4 +1,4 @@
--- One station: a float that was read has a text in every admitted format, which is read back as that float and denotes its value exactly; a buffer of 2,275 bytes takes it.
+-- One station: a float that was read has a text in every admitted format, which is read back as that float and denotes its value exactly; a buffer of `longestText` bytes takes it.
 -- And a station that writes into bytes with room hands on the text, whatever they held. Assumes nothing.
 use Prim.Native.Nat.{ℕ, _≤_}
 use mathlib.Core.Path.{_≡_, refl, sym, ap, _∙_}

@@ -1,5 +1,5 @@
 -- Demand 3: what is said of rewriting and of a chain, at each width, for all texts that the reader accepts, all formats that the writer admits without a digit limit,
--- and all buffers of at least 2,275 bytes, whatever they held. Statements only; `DemandLaws` proves them, and `RecordLaws` those of records.
+-- and all buffers of at least `longestText` bytes, whatever they held. Statements only; `DemandLaws` proves them, and `RecordLaws` those of records.
 use Prim.Native.Nat.{ℕ, _≤_, _<_}
 use mathlib.Core.Path.{_≡_}
 use mathlib.Core.List.{List, _++_}

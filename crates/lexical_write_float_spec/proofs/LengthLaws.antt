@@ -1,4 +1,4 @@
--- How long a text is, by its layout: with at most 64 digits in D and 1,200 least digits, and s from -1,074 to 1,024, no more than 2,275 bytes. Assumes nothing.
+-- How long a text is, by its layout: with at most 64 digits in D and 1,200 least digits, and s from -1,074 to 1,024, no more than `longestText` bytes. Assumes nothing.
 use Prim.Native.Nat.{ℕ, _+_, _-_, _*_, _/_, _≤_, _<_, min, max}
 use mathlib.Core.Path.{_≡_}
 use mathlib.Core.Bool.{Bool, true, false, not, cond, _&&_}

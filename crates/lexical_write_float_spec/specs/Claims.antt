@@ -29,7 +29,7 @@ FirstDigit = (b m : ℕ) (e : ℤ) → 0 < b → 0 < m → getD (exactDigits b m
 abbrev pub LastDigit : Type 0
 LastDigit = (b m : ℕ) (e : ℤ) → 0 < b → m % 2 ≡ 1 → getD (exactDigits b m e) (length (exactDigits b m e) - 1) 48 ≢ 48
 
--- no text passes 2,275 bytes, with a digit limit or without, at either width
+-- no text passes `longestText` bytes, with a digit limit or without, at either width
 abbrev pub LongestText : Type 0
 LongestText = (f : Format) (F : NumberFormat) (o : Options) (x : Float) (t : List ℕ) → T (fits f x) → writeText F o x ≡ done t → length t ≤ longestText
 

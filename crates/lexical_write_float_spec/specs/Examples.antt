@@ -128,7 +128,7 @@ further =
     ∷ is "limit, 16/16/16: 2.5, one digit, Truncate" (plain 16 16 16) (options 0 1 Truncate false) (double 5 2) "2.0"
     ∷ []
 
--- the longest text, with a digit limit and without: 2,275 bytes are enough, and one less is refused
+-- the longest text, with a digit limit and without: so many bytes are enough, and one less is refused
 abbrev longestIn : String → ℕ → ℕ → Answer ℕ → Example
 longestIn name most n wanted =
     let t = writeText (formatWith 2 2 2 false true false false) (options 1200 most Round false) (double 1 (2 ^ 1074)) in

@@ -1,4 +1,4 @@
--- A table that a sheet turns into is made of bytes, and has at most 6,408 of them. Assumes nothing.
+-- A table that a sheet turns into is made of bytes, and has no more of them than the longest table. Assumes nothing.
 use Prim.Native.Nat.{ℕ, zero, suc, _+_, _*_, _/_, _≤_}
 use mathlib.Core.Path.{_≡_, refl, ap, _∙_, subst}
 use mathlib.Core.Bool.{Bool, true, false, cond}

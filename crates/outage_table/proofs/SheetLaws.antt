@@ -66,7 +66,7 @@ module _ (F : NumberFormat) (o : Options) where
         let s = split t n i k ws e in
         rw (s .is-all) (rows-text (s .first) (s .others) (row-texts F o A t n i (s .first) (s .is-first)) (rows-are k (suc i) (s .others) (s .is-others)))
 
-    -- two texts of at most 2,275 bytes, a space and an LF for each row
+    -- two texts of at most `longestText` bytes, a space and an LF for each row
     pub rows-most : rowsFrom t n 0 n ≡ done (contents (rowsFrom t n 0 n)) → length (rowsOf F o (contents (rowsFrom t n 0 n))) ≤ (2 * (longestText + 1)) * n
     rows-most f =
         let ws = contents (rowsFrom t n 0 n) in

@@ -1,4 +1,4 @@
--- `outage_table::to_sheet::sheet_has_room` meets its contract: no rows are longer than 4,552 bytes each, and where that does not settle it they are measured. Assumes nothing.
+-- `outage_table::to_sheet::sheet_has_room` meets its contract: no row is longer than two of the longest texts, a space and an LF, and where that does not settle it they are measured. Assumes nothing.
 use Prim.Native.Nat.{_≤_}
 use mathlib.Core.Path.{_≡_, sym, ap, _∙_}
 use native.Mathlib.Omega.{arith}
