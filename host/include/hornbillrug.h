@@ -31,8 +31,8 @@ extern "C" {
 #define LEXICAL_LONGEST_TEXT 2275
 #define LEXICAL_LONGEST_READ 4096
 #define OUTAGE_MOST_WINDOWS 400
-#define OUTAGE_LONGEST_SHEET 1820804
-#define OUTAGE_LONGEST_TABLE 6408
+#define OUTAGE_LONGEST_SHEET (4 + OUTAGE_MOST_WINDOWS * 2 * (LEXICAL_LONGEST_TEXT + 1))
+#define OUTAGE_LONGEST_TABLE (8 + 16 * OUTAGE_MOST_WINDOWS)
 
 /* A format: a pair of radix and base, an exponent radix, flags and options. Zero is absent in the two
  * counts and the two breaks. */
@@ -104,7 +104,7 @@ lexical_station_answer lexical_rewrite_f32(const uint8_t *text, size_t text_leng
                                            uint8_t *buffer, size_t length);
 
 /* A text rewritten by station after station: the first has the format `first`, each further one that
- * of a record of 19 bytes, one behind the other in `further`. */
+ * of a record of LEXICAL_RECORD bytes, one behind the other in `further`. */
 lexical_station_answer lexical_chain_f64(const uint8_t *text, size_t text_length,
                                          lexical_format from, lexical_format first,
                                          const uint8_t *further, size_t further_length,

@@ -5,7 +5,7 @@
 use std::mem::MaybeUninit;
 
 use hornbillrug::raw::{Answer, AnswerF32, AnswerF64, StationAnswer};
-use hornbillrug::{Format, Record, Refusal, StationRefusal, Step};
+use hornbillrug::{Format, Record, Refusal, StationRefusal, Step, RECORD_SIZE};
 
 use crate::{Calls, Rewritten, Written};
 
@@ -200,7 +200,7 @@ impl Calls for C {
         })
     }
     fn record(format: &Format) -> Record {
-        let mut record = [0; 19];
+        let mut record = [0; RECORD_SIZE];
         unsafe { through_record(format, record.as_mut_ptr()) };
         record
     }

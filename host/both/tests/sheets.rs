@@ -2,7 +2,7 @@
 
 use both::list::{self, Sheet};
 use both::{expect, expect_text, over_both, Calls, Written};
-use hornbillrug::{Format, Refusal, LONGEST_SHEET, LONGEST_TABLE, MOST_WINDOWS};
+use hornbillrug::{Format, Refusal, LONGEST_SHEET, LONGEST_TABLE, LONGEST_TEXT, MOST_WINDOWS};
 
 const SHORT: Refusal = Refusal { number: 8, place: 0 };
 
@@ -39,8 +39,8 @@ fn largest<T: Calls>() {
         ..Format::new(2, 2, 10, b'^')
     };
     let mut table = Vec::new();
-    table.extend(400u32.to_le_bytes());
-    table.extend(6408u32.to_le_bytes());
+    table.extend((MOST_WINDOWS as u32).to_le_bytes());
+    table.extend((LONGEST_TABLE as u32).to_le_bytes());
     table.resize_with(LONGEST_TABLE, Default::default);
     for float in table[8..].chunks_mut(8) {
         float[0] = 1;
@@ -48,7 +48,7 @@ fn largest<T: Calls>() {
     let mut row = b"0.".to_vec();
     row.resize(2 + 1073, b'0');
     row.push(b'1');
-    row.resize(2275, b'0');
+    row.resize(LONGEST_TEXT, b'0');
     let mut sheet = b"400\n".to_vec();
     for _ in 0..MOST_WINDOWS {
         sheet.extend_from_slice(&row);
@@ -66,8 +66,8 @@ fn damaged_rows<T: Calls>() {
     let format = Format { required_exponent_notation: true, ..Format::new(16, 2, 10, b'p') };
     let sheet = [&b"400\n"[..], &b"1.0p0 1.8p0\n".repeat(MOST_WINDOWS)].concat();
     let mut table = Vec::new();
-    table.extend(400u32.to_le_bytes());
-    table.extend(6408u32.to_le_bytes());
+    table.extend((MOST_WINDOWS as u32).to_le_bytes());
+    table.extend((LONGEST_TABLE as u32).to_le_bytes());
     table.extend(1.0f64.to_le_bytes().repeat(MOST_WINDOWS));
     table.extend(1.5f64.to_le_bytes().repeat(MOST_WINDOWS));
     expect_text(&table, 5, SHORT, |b| T::sheet_to_table(&sheet, &format, b));

@@ -3,7 +3,7 @@
 
 use both::list::{self, Writing};
 use both::{expect, expect_text, over_both, Calls, Rewritten};
-use hornbillrug::{Format, Record, Refusal, StationRefusal, Step};
+use hornbillrug::{Format, Record, Refusal, StationRefusal, Step, LONGEST_TEXT};
 
 over_both!(
     rewritten_in_place,
@@ -97,7 +97,7 @@ fn chains_hand_on_the_float<T: Calls>() {
         let Ok(bits) = case.answer else { continue };
         for first in &formats {
             let last = formats[(bits % 6) as usize];
-            let mut b = [0; 2275];
+            let mut b = [0; LONGEST_TEXT];
             let further = [formats[1].record(), last.record()];
             let length = chain::<T>(case.width, &case.text, &case.format, first, &further, &mut b)
                 .expect("no station refuses");
@@ -171,7 +171,7 @@ fn records_say_the_same<T: Calls>() {
     for line in list::writing("limit_ref.txt").into_iter().chain(list::writing("write.txt")) {
         let Ok(text) = &line.answer else { continue };
         let exact = Format { no_exponent_notation: true, ..Format::new(2, 2, 10, b'^') };
-        let mut first = [0; 2275];
+        let mut first = [0; LONGEST_TEXT];
         let length = match line.width {
             32 => T::write_f32(f32::from_bits(line.bits as u32), &exact, &mut first),
             _ => T::write_f64(f64::from_bits(line.bits), &exact, &mut first),

@@ -39,8 +39,10 @@ pub struct Format {
     pub exponent_radix: u32,
 }
 
-/// A format as 19 bytes, in which a chain takes its further stations.
-pub type Record = [u8; 19];
+/// The bytes of a format's record.
+pub const RECORD_SIZE: usize = 19;
+/// A format as bytes, in which a chain takes its further stations.
+pub type Record = [u8; RECORD_SIZE];
 
 impl Format {
     /// A pair, an exponent radix and a mark, with the point "." and all else off or absent.

@@ -35,7 +35,7 @@ mod refusal;
 mod sheet;
 mod station;
 
-pub use format::{Format, Record};
+pub use format::{Format, Record, RECORD_SIZE};
 pub use number::{read_f32, read_f64, write_f32, write_f64, write_integer};
 pub use refusal::{Refusal, StationRefusal, Step};
 pub use sheet::{sheet_to_table, table_to_sheet};
@@ -48,6 +48,6 @@ pub const LONGEST_READ: usize = 4_096;
 /// The windows of the longest table.
 pub const MOST_WINDOWS: usize = 400;
 /// No sheet is longer.
-pub const LONGEST_SHEET: usize = 1_820_804;
+pub const LONGEST_SHEET: usize = 4 + MOST_WINDOWS * 2 * (LONGEST_TEXT + 1);
 /// No table is longer.
 pub const LONGEST_TABLE: usize = 8 + 16 * MOST_WINDOWS;
