@@ -1,6 +1,5 @@
 // The check of a window: document 01, "Outage table and sheet".
 ghost use mathlib.Core.Path.{_≡_};
-ghost use mathlib.Core.Option.{none};
 ghost use Rattle.outage_spec.specs.Window.{judged};
 ghost use Rattle.outage.specs.Answer.{ofCheckedWindow};
 use lexical_float::less_f64;
@@ -15,7 +14,7 @@ pub enum CheckedWindow {
 
 // 14: the end below the start, by value.
 pub fn check_window(window: Window) -> CheckedWindow
-    ensures { λ r. ⌜ ofCheckedWindow r ≡ judged none window ⌝ }
+    ensures { λ r. ⌜ ofCheckedWindow r ≡ judged window ⌝ }
 {
     if less_f64(window.end, window.start) {
         return CheckedWindow::Refused(Refusal {

@@ -1,8 +1,7 @@
 -- The rows of a sheet: a row more, a row refused, extra bytes, and none left. Assumes nothing.
-use Prim.Native.Nat.{ℕ, zero, suc, _+_, _-_, _≤_, _<_}
+use Prim.Native.Nat.{ℕ, suc, _+_, _-_, _≤_, _<_}
 use mathlib.Core.Path.{_≡_, refl, sym, ap, _∙_}
-use mathlib.Core.List.{List, [], _∷_}
-use mathlib.Core.Option.{Option, none, some}
+use mathlib.Core.List.{List, []}
 use native.Mathlib.Omega.{arith}
 use lib.ListN.{length, drop, drop-of-length-le}
 use lib.Seq.{drop-cons, drop-drop}
@@ -11,40 +10,33 @@ use Rattle.lexical_format.specs.declared.format.NumberFormat.{NumberFormat}
 use Rattle.lexical_format.specs.declared.options.Options.{Options}
 use Rattle.outage_spec.specs.declared.window.Window.{Window}
 use Rattle.outage_spec.specs.Table.{tableSize}
-use Rattle.outage_spec.specs.Sheet.{before, fieldsWindow, lineWindow, rowIn, linesFrom}
+use Rattle.outage_spec.specs.Sheet.{before, rowIn, linesFrom}
 use Rattle.outage_sheet.specs.Fill.{putWindow, FilledTable}
 use Rattle.outage_sheet.proofs.FillLaws.{sizeOf, withRow, size-more, fill-more, fill-end}
 
 module _ (F : NumberFormat) (o : Options) where
-  -- no check looks at the row above
-  lines-above : (k p : ℕ) (above above′ : Option Window) (l : List ℕ) → linesFrom F o k p above l ≡ linesFrom F o k p above′ l
-  unfolding linesFrom rowIn lineWindow fieldsWindow
-  lines-above zero p a a′ [] = refl
-  lines-above zero p a a′ (x ∷ xs) = refl
-  lines-above (suc k) p a a′ l = refl
-
   -- ---- row i of n, which stands at p in the sheet and whose LF stands m bytes on
   module _ (s : List ℕ) (n i p : ℕ) where
-    lines-more : (w : Window) (m : ℕ) → i < n → m ≡ length (before 10 (drop p s)) → rowIn F o none (drop p s) ≡ done w
-        → linesFrom F o (n - i) p none (drop p s) ≡ withRow w (linesFrom F o (n - (i + 1)) (p + (m + 1)) none (drop (p + (m + 1)) s))
+    lines-more : (w : Window) (m : ℕ) → i < n → m ≡ length (before 10 (drop p s)) → rowIn F o (drop p s) ≡ done w
+        → linesFrom F o (n - i) p (drop p s) ≡ withRow w (linesFrom F o (n - (i + 1)) (p + (m + 1)) (drop (p + (m + 1)) s))
     unfolding linesFrom
     lines-more w m h f e =
         let z : n - i ≡ suc (n - (i + 1)) = omega arith in
-        rw (z, e, ← f, drop-drop (m + 1) p s, lines-above (n - (i + 1)) (p + (m + 1)) (some w) none (drop (p + (m + 1)) s))
+        rw (z, e, ← f, drop-drop (m + 1) p s)
 
-    lines-stop : (k q : ℕ) → i < n → rowIn F o none (drop p s) ≡ refused k q → linesFrom F o (n - i) p none (drop p s) ≡ refused k (p + q)
+    lines-stop : (k q : ℕ) → i < n → rowIn F o (drop p s) ≡ refused k q → linesFrom F o (n - i) p (drop p s) ≡ refused k (p + q)
     unfolding linesFrom
     lines-stop k q h e =
         let z : n - i ≡ suc (n - (i + 1)) = omega arith in
         rw (z, e)
 
-    lines-extra : n ≤ i → p < length s → linesFrom F o (n - i) p none (drop p s) ≡ refused 15 p
+    lines-extra : n ≤ i → p < length s → linesFrom F o (n - i) p (drop p s) ≡ refused 15 p
     unfolding linesFrom
     lines-extra h k =
         let z : n - i ≡ 0 = omega arith in
         rw (z, drop-cons s p 0 k)
 
-    lines-end : n ≤ i → length s ≤ p → linesFrom F o (n - i) p none (drop p s) ≡ done []
+    lines-end : n ≤ i → length s ≤ p → linesFrom F o (n - i) p (drop p s) ≡ done []
     unfolding linesFrom
     lines-end h k =
         let z : n - i ≡ 0 = omega arith in
@@ -52,8 +44,8 @@ module _ (F : NumberFormat) (o : Options) where
 
 -- ---- the loop that reads: what is left of the n rows from row i on, at p in the sheet, with the table so far, against all of them, which stand from start on
 pub record Left (F : NumberFormat) (o : Options) (s : List ℕ) (start n : ℕ) (t₀ : List ℕ) (i p : ℕ) (t : List ℕ) : Type 0 where
-  pub size : sizeOf n (linesFrom F o (n - i) p none (drop p s)) ≡ sizeOf n (linesFrom F o n start none (drop start s))
-  pub bytes : (out : List ℕ) → FilledTable n i t (linesFrom F o (n - i) p none (drop p s)) out → FilledTable n 0 t₀ (linesFrom F o n start none (drop start s)) out
+  pub size : sizeOf n (linesFrom F o (n - i) p (drop p s)) ≡ sizeOf n (linesFrom F o n start (drop start s))
+  pub bytes : (out : List ℕ) → FilledTable n i t (linesFrom F o (n - i) p (drop p s)) out → FilledTable n 0 t₀ (linesFrom F o n start (drop start s)) out
   pub same : length t ≡ length t₀
 
 module _ (F : NumberFormat) (o : Options) (s : List ℕ) (start n : ℕ) (t₀ : List ℕ) where
@@ -61,10 +53,10 @@ module _ (F : NumberFormat) (o : Options) (s : List ℕ) (start n : ℕ) (t₀ :
   left-all = let z : n - 0 ≡ n = omega arith in record { size = rw z; bytes = rw z (λ out f. f); same = refl }
 
   module _ (i p : ℕ) (t : List ℕ) (left : Left F o s start n t₀ i p t) where
-    pub left-more : (w : Window) (m : ℕ) → i < n → m ≡ length (before 10 (drop p s)) → rowIn F o none (drop p s) ≡ done w
+    pub left-more : (w : Window) (m : ℕ) → i < n → m ≡ length (before 10 (drop p s)) → rowIn F o (drop p s) ≡ done w
         → (t′ : List ℕ) → t′ ≡ putWindow t n i w → length t′ ≡ length t → Left F o s start n t₀ (i + 1) (p + (m + 1)) t′
     left-more w m h f e t′ g l =
-        let rest = linesFrom F o (n - (i + 1)) (p + (m + 1)) none (drop (p + (m + 1)) s) in
+        let rest = linesFrom F o (n - (i + 1)) (p + (m + 1)) (drop (p + (m + 1)) s) in
         let z = lines-more F o s n i p w m h f e in
         record {
           size = sym (size-more n w rest) ∙ sym (ap (sizeOf n) z) ∙ left .size;
@@ -72,18 +64,18 @@ module _ (F : NumberFormat) (o : Options) (s : List ℕ) (start n : ℕ) (t₀ :
           same = l ∙ left .same;
         }
 
-    left-refused : (k q : ℕ) → linesFrom F o (n - i) p none (drop p s) ≡ refused k q
-        → (refused k q ≡ sizeOf n (linesFrom F o n start none (drop start s))) × FilledTable n 0 t₀ (linesFrom F o n start none (drop start s)) t
+    left-refused : (k q : ℕ) → linesFrom F o (n - i) p (drop p s) ≡ refused k q
+        → (refused k q ≡ sizeOf n (linesFrom F o n start (drop start s))) × FilledTable n 0 t₀ (linesFrom F o n start (drop start s)) t
     left-refused k q e = (sym (ap (sizeOf n) e) ∙ left .size, left .bytes t (rw e refl))
 
-    pub left-stop : (k q : ℕ) → i < n → rowIn F o none (drop p s) ≡ refused k q
-        → (refused k (p + q) ≡ sizeOf n (linesFrom F o n start none (drop start s))) × FilledTable n 0 t₀ (linesFrom F o n start none (drop start s)) t
+    pub left-stop : (k q : ℕ) → i < n → rowIn F o (drop p s) ≡ refused k q
+        → (refused k (p + q) ≡ sizeOf n (linesFrom F o n start (drop start s))) × FilledTable n 0 t₀ (linesFrom F o n start (drop start s)) t
     left-stop k q h e = left-refused k (p + q) (lines-stop F o s n i p k q h e)
 
-    pub left-extra : n ≤ i → p < length s → (refused 15 p ≡ sizeOf n (linesFrom F o n start none (drop start s))) × FilledTable n 0 t₀ (linesFrom F o n start none (drop start s)) t
+    pub left-extra : n ≤ i → p < length s → (refused 15 p ≡ sizeOf n (linesFrom F o n start (drop start s))) × FilledTable n 0 t₀ (linesFrom F o n start (drop start s)) t
     left-extra h k = left-refused 15 p (lines-extra F o s n i p h k)
 
-    pub left-none : n ≤ i → length s ≤ p → (done (tableSize n) ≡ sizeOf n (linesFrom F o n start none (drop start s))) × FilledTable n 0 t₀ (linesFrom F o n start none (drop start s)) t
+    pub left-none : n ≤ i → length s ≤ p → (done (tableSize n) ≡ sizeOf n (linesFrom F o n start (drop start s))) × FilledTable n 0 t₀ (linesFrom F o n start (drop start s)) t
     left-none h k =
         let e = lines-end F o s n i p h k in
         (sym (ap (sizeOf n) e) ∙ left .size, left .bytes t (rw e (fill-end n i t)))

@@ -108,75 +108,74 @@ module _ (F : NumberFormat) (o : Options) where
       go (refused k p) e h = h
 
   -- ---- a row's window, which can be stored, or a place within the row
-  module _ (above : Option Window) where
-    fields-within : (s e : List ℕ) → Within Stored (length s + 1 + length e) (fieldsWindow F o above s e)
-    unfolding fieldsWindow
-    fields-within s e =
-        let n = length s + 1 + length e in
-        within-then IsNumber Stored n (readFloat binary64 F o s) _ (within-more IsNumber (length s) n (omega arith) (readFloat binary64 F o s) (read-within s))
-        (λ x hx. within-then IsNumber Stored n (from (length s + 1) (readFloat binary64 F o e)) _ (within-from IsNumber (length e) (length s + 1) (readFloat binary64 F o e) (read-within e))
-        (λ y hy. within-checked Stored n (windowChecks above (record { start = x; end = y })) (done (record { start = x; end = y })) (hx, hy)))
+  fields-within : (s e : List ℕ) → Within Stored (length s + 1 + length e) (fieldsWindow F o s e)
+  unfolding fieldsWindow
+  fields-within s e =
+      let n = length s + 1 + length e in
+      within-then IsNumber Stored n (readFloat binary64 F o s) _ (within-more IsNumber (length s) n (omega arith) (readFloat binary64 F o s) (read-within s))
+      (λ x hx. within-then IsNumber Stored n (from (length s + 1) (readFloat binary64 F o e)) _ (within-from IsNumber (length e) (length s + 1) (readFloat binary64 F o e) (read-within e))
+      (λ y hy. within-checked Stored n (windowChecks (record { start = x; end = y })) (done (record { start = x; end = y })) (hx, hy)))
 
-    line-within : (l : List ℕ) → Within Stored (length l) (lineWindow F o above l)
-    unfolding lineWindow
-    line-within l = go (lacks 32 l) refl
-      where
-        s : List ℕ
-        s = before 32 l
+  line-within : (l : List ℕ) → Within Stored (length l) (lineWindow F o l)
+  unfolding lineWindow
+  line-within l = go (lacks 32 l) refl
+    where
+      s : List ℕ
+      s = before 32 l
 
-        e : List ℕ
-        e = drop (length s + 1) l
+      e : List ℕ
+      e = drop (length s + 1) l
 
-        go : (b : Bool) → lacks 32 l ≡ b → Within Stored (length l) (cond b (refused 15 0) (checked ((15, not (lacks 32 e)) ∷ []) (fieldsWindow F o above s e)))
-        go true q = omega arith
-        go false q =
-            let d = eqb-false (length s) (length l) q in
-            within-checked Stored (length l) ((15, not (lacks 32 e)) ∷ []) (fieldsWindow F o above s e)
-            (within-more Stored (length s + 1 + length e) (length l) (omega (arith, before-le 32 l, length-drop (length s + 1) l, d)) (fieldsWindow F o above s e) (fields-within s e))
+      go : (b : Bool) → lacks 32 l ≡ b → Within Stored (length l) (cond b (refused 15 0) (checked ((15, not (lacks 32 e)) ∷ []) (fieldsWindow F o s e)))
+      go true q = omega arith
+      go false q =
+          let d = eqb-false (length s) (length l) q in
+          within-checked Stored (length l) ((15, not (lacks 32 e)) ∷ []) (fieldsWindow F o s e)
+          (within-more Stored (length s + 1 + length e) (length l) (omega (arith, before-le 32 l, length-drop (length s + 1) l, d)) (fieldsWindow F o s e) (fields-within s e))
 
-    row-within : (l : List ℕ) → Within Stored (length l) (rowIn F o above l)
-    unfolding rowIn
-    row-within l =
-        within-checked Stored (length l) ((15, lacks 10 l) ∷ []) (lineWindow F o above (before 10 l))
-        (within-more Stored (length (before 10 l)) (length l) (before-le 10 l) (lineWindow F o above (before 10 l)) (line-within (before 10 l)))
+  row-within : (l : List ℕ) → Within Stored (length l) (rowIn F o l)
+  unfolding rowIn
+  row-within l =
+      within-checked Stored (length l) ((15, lacks 10 l) ∷ []) (lineWindow F o (before 10 l))
+      (within-more Stored (length (before 10 l)) (length l) (before-le 10 l) (lineWindow F o (before 10 l)) (line-within (before 10 l)))
 
 -- ---- the fields, by their cases
 module _ (F : NumberFormat) (o : Options) (s e : List ℕ) where
-  pub fields-start : (k p : ℕ) → readFloat binary64 F o s ≡ refused k p → fieldsWindow F o none s e ≡ refused k p
+  pub fields-start : (k p : ℕ) → readFloat binary64 F o s ≡ refused k p → fieldsWindow F o s e ≡ refused k p
   unfolding fieldsWindow
   fields-start k p f = rw f
 
-  pub fields-end : (x : Float) (k p : ℕ) → readFloat binary64 F o s ≡ done x → readFloat binary64 F o e ≡ refused k p → fieldsWindow F o none s e ≡ refused k (length s + 1 + p)
+  pub fields-end : (x : Float) (k p : ℕ) → readFloat binary64 F o s ≡ done x → readFloat binary64 F o e ≡ refused k p → fieldsWindow F o s e ≡ refused k (length s + 1 + p)
   unfolding fieldsWindow
   fields-end x k p f g = rw (f, g)
 
-  pub fields-both : (x y : Float) → readFloat binary64 F o s ≡ done x → readFloat binary64 F o e ≡ done y → fieldsWindow F o none s e ≡ judged none (record { start = x; end = y })
+  pub fields-both : (x y : Float) → readFloat binary64 F o s ≡ done x → readFloat binary64 F o e ≡ done y → fieldsWindow F o s e ≡ judged (record { start = x; end = y })
   unfolding fieldsWindow
   fields-both x y f g = rw (f, g)
 
 -- ---- a line, whose first space the code found at m
 module _ (F : NumberFormat) (o : Options) (line : List ℕ) where
-  pub line-none : length (before 32 line) ≡ length line → lineWindow F o none line ≡ refused 15 0
+  pub line-none : length (before 32 line) ≡ length line → lineWindow F o line ≡ refused 15 0
   unfolding lineWindow
   line-none k = rw (eq-eqb (length (before 32 line)) (length line) k)
 
   module _ (m : ℕ) (f : m ≡ length (before 32 line)) (k : m ≡ length line → ⊥) (end : List ℕ) (g : end ≡ drop (m + 1) line) where
-    pub line-more : (length (before 32 end) ≡ length end → ⊥) → lineWindow F o none line ≡ refused 15 0
+    pub line-more : (length (before 32 end) ≡ length end → ⊥) → lineWindow F o line ≡ refused 15 0
     unfolding lineWindow
     line-more d = rw (← f, ne-eqb m (length line) k, ← g, ne-eqb (length (before 32 end)) (length end) d)
 
-    pub line-one : length (before 32 end) ≡ length end → (x : Answer Window) → x ≡ fieldsWindow F o none (take m line) end → x ≡ lineWindow F o none line
+    pub line-one : length (before 32 end) ≡ length end → (x : Answer Window) → x ≡ fieldsWindow F o (take m line) end → x ≡ lineWindow F o line
     unfolding lineWindow
     line-one d x e =
         let s : take m line ≡ before 32 line = ap (λ (i : ℕ). take i line) f ∙ before-take 32 line in
         e ∙ rw (s, ← f, ne-eqb m (length line) k, ← g, eq-eqb (length (before 32 end)) (length end) d)
 
   -- ---- a row, whose LF it found there
-  pub row-none : length (before 10 line) ≡ length line → rowIn F o none line ≡ refused 15 0
+  pub row-none : length (before 10 line) ≡ length line → rowIn F o line ≡ refused 15 0
   unfolding rowIn
   row-none k = rw (eq-eqb (length (before 10 line)) (length line) k)
 
-  pub row-line : (m : ℕ) → m ≡ length (before 10 line) → (m ≡ length line → ⊥) → rowIn F o none line ≡ lineWindow F o none (take m line)
+  pub row-line : (m : ℕ) → m ≡ length (before 10 line) → (m ≡ length line → ⊥) → rowIn F o line ≡ lineWindow F o (take m line)
   unfolding rowIn
   row-line m f k =
       let s : take m line ≡ before 10 line = ap (λ (i : ℕ). take i line) f ∙ before-take 10 line in
@@ -187,14 +186,14 @@ pub end-there : (s : List ℕ) (p m : ℕ) → m ≡ length (before 10 (take (le
 end-there s p m e = e ∙ ap (λ (l : List ℕ). length (before 10 l)) (part-to-end s p)
 
 module _ (F : NumberFormat) (o : Options) (s : List ℕ) (p : ℕ) where
-  module _ (x a : Answer Window) (e : x ≡ rowIn F o none (take (length s - p) (drop p s))) (f : x ≡ a) where
-    pub row-there : rowIn F o none (drop p s) ≡ a
-    row-there = sym (ap (rowIn F o none) (part-to-end s p)) ∙ sym e ∙ f
+  module _ (x a : Answer Window) (e : x ≡ rowIn F o (take (length s - p) (drop p s))) (f : x ≡ a) where
+    pub row-there : rowIn F o (drop p s) ≡ a
+    row-there = sym (ap (rowIn F o) (part-to-end s p)) ∙ sym e ∙ f
 
     pub row-known : Within Stored (length s - p) a
-    row-known = rw (← length-drop p s) (subst (Within Stored (length (drop p s))) row-there (row-within F o none (drop p s)))
+    row-known = rw (← length-drop p s) (subst (Within Stored (length (drop p s))) row-there (row-within F o (drop p s)))
 
-  pub row-ends : (m : ℕ) → m ≡ length (before 10 (drop p s)) → (w : Window) → rowIn F o none (drop p s) ≡ done w → p + m < length s
+  pub row-ends : (m : ℕ) → m ≡ length (before 10 (drop p s)) → (w : Window) → rowIn F o (drop p s) ≡ done w → p + m < length s
   row-ends m f w e = go (eqb (length (before 10 (drop p s))) (length (drop p s))) refl
     where
       go : (b : Bool) → lacks 10 (drop p s) ≡ b → p + m < length s

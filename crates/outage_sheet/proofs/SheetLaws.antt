@@ -2,7 +2,7 @@
 use Prim.Native.Nat.{ℕ, _+_, _≤_, _<_}
 use mathlib.Core.Path.{_≡_, ap, _∙_}
 use mathlib.Core.List.{List}
-use mathlib.Core.Option.{Option, none}
+use mathlib.Core.Option.{Option}
 use borrow.Author.Tests.{eq-eqb, ne-eqb, lt-ltb, le-ltb}
 use lib.ListN.{length, take, drop}
 use Rattle.lexical_util.specs.Answer.{Answer, done, refused, written, held}
@@ -39,7 +39,7 @@ module _ (F : NumberFormat) (o : Options) (s : List ℕ) (room : ℕ) where
     unfolding countedTable
     no-room h = rw (e, lt-ltb room (tableSize n) h)
 
-    pub from-rows : tableSize n ≤ room → (p : ℕ) → p ≡ length (before 10 s) + 1 → countedTable F o s room ≡ tableFrom (linesFrom F o n p none (drop p s))
+    pub from-rows : tableSize n ≤ room → (p : ℕ) → p ≡ length (before 10 s) + 1 → countedTable F o s room ≡ tableFrom (linesFrom F o n p (drop p s))
     unfolding countedTable
     from-rows h p f = rw (e, le-ltb room (tableSize n) h, ← f)
 

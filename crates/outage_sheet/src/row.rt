@@ -1,6 +1,5 @@
 // A row of a sheet: document 01, "start, space, end, LF". Places are counted from the line's first byte.
 ghost use mathlib.Core.Path.{_≡_};
-ghost use mathlib.Core.Option.{none};
 ghost use Prim.Native.Nat.{_+_, _≤_};
 ghost use lib.ListN.{length};
 ghost use Rattle.outage.specs.Answer.{ofCheckedWindow};
@@ -17,7 +16,7 @@ use outage_spec::Window;
 // The start's refusal, the end's, then 14.
 fn fields_window(start: &[u8], end: &[u8], format: NumberFormat, options: Options) -> CheckedWindow
     requires { ⌜ length (now start) + length (now end) + 1 ≤ 9223372036854775807 ⌝ }
-    ensures { λ r. ⌜ ofCheckedWindow r ≡ fieldsWindow format options none (now (start .entry)) (now (end .entry)) ⌝ }
+    ensures { λ r. ⌜ ofCheckedWindow r ≡ fieldsWindow format options (now (start .entry)) (now (end .entry)) ⌝ }
 {
     match read_f64(start, format, options) {
         ReadF64::Refused(refusal) => CheckedWindow::Refused(refusal),
@@ -33,7 +32,7 @@ fn fields_window(start: &[u8], end: &[u8], format: NumberFormat, options: Option
 
 // A line without its LF. 15: no space, or a second one.
 fn line_window(line: &[u8], format: NumberFormat, options: Options) -> CheckedWindow
-    ensures { λ r. ⌜ ofCheckedWindow r ≡ lineWindow format options none (now (line .entry)) ⌝ }
+    ensures { λ r. ⌜ ofCheckedWindow r ≡ lineWindow format options (now (line .entry)) ⌝ }
 {
     let space = find(line, b' ');
     if space == line.len() {
@@ -61,7 +60,7 @@ pub(crate) fn row_in(
     options: Options,
 ) -> CheckedWindow
     requires { ⌜ newline ≡ length (before 10 (now text)) ⌝ }
-    ensures { λ r. ⌜ ofCheckedWindow r ≡ rowIn format options none (now (text .entry)) ⌝ }
+    ensures { λ r. ⌜ ofCheckedWindow r ≡ rowIn format options (now (text .entry)) ⌝ }
 {
     if newline == text.len() {
         return CheckedWindow::Refused(Refusal {

@@ -1,6 +1,5 @@
 // Sheet to table: every row is read into bytes of the call's own before the first byte is written into those lent.
 ghost use mathlib.Core.Path.{_≡_};
-ghost use mathlib.Core.Option.{none};
 ghost use Prim.Native.Nat.{_≤_};
 ghost use lib.ListN.{length, drop};
 ghost use Rattle.lexical_util.specs.Answer.{done, andThen, written, held, ofWritten};
@@ -40,8 +39,8 @@ fn read_rows(
     table: &mut [u8],
 ) -> Written
     requires { ⌜ (from ≤ length (now sheet)) × (n ≤ mostWindows) × (tableSize n ≤ length (now table)) ⌝ }
-    ensures { λ r. ⌜ ofWritten r ≡ andThen (linesFrom format options n from none (drop from (now (sheet .entry)))) (λ ws. done (tableSize n)) ⌝ }
-    ensures { λ _. ⌜ FilledTable n 0 (now (table .entry)) (linesFrom format options n from none (drop from (now (sheet .entry)))) (now (table .exit)) ⌝ }
+    ensures { λ r. ⌜ ofWritten r ≡ andThen (linesFrom format options n from (drop from (now (sheet .entry)))) (λ ws. done (tableSize n)) ⌝ }
+    ensures { λ _. ⌜ FilledTable n 0 (now (table .entry)) (linesFrom format options n from (drop from (now (sheet .entry)))) (now (table .exit)) ⌝ }
 {
     let mut at = from;
     let mut i: usize = 0;
@@ -78,8 +77,8 @@ fn read_table(
     table: &mut [u8],
 ) -> Written
     requires { ⌜ (from ≤ length (now sheet)) × (n ≤ mostWindows) × (tableSize n ≤ length (now table)) ⌝ }
-    ensures { λ r. ⌜ ofWritten r ≡ written (andThen (linesFrom format options n from none (drop from (now (sheet .entry)))) (λ ws. done (tableOf ws))) (now (table .entry)) ⌝ }
-    ensures { λ _. ⌜ now (table .exit) ≡ held (andThen (linesFrom format options n from none (drop from (now (sheet .entry)))) (λ ws. done (tableOf ws))) (now (table .entry)) ⌝ }
+    ensures { λ r. ⌜ ofWritten r ≡ written (andThen (linesFrom format options n from (drop from (now (sheet .entry)))) (λ ws. done (tableOf ws))) (now (table .entry)) ⌝ }
+    ensures { λ _. ⌜ now (table .exit) ≡ held (andThen (linesFrom format options n from (drop from (now (sheet .entry)))) (λ ws. done (tableOf ws))) (now (table .entry)) ⌝ }
 {
     let mut rows = [0u8; LONGEST_TABLE];
     put_header(&mut rows, n);

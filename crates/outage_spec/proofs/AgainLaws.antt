@@ -3,7 +3,6 @@ use Prim.Native.Nat.{ℕ, zero, suc, _+_, _*_, _≤_}
 use mathlib.Core.Path.{_≡_, refl, sym, ap, _∙_, subst}
 use mathlib.Core.Bool.{Bool, true, false, not, cond}
 use mathlib.Core.List.{List, [], _∷_, _++_, append-assoc}
-use mathlib.Core.Option.{Option, none, some}
 use native.Mathlib.Omega.{arith}
 use borrow.Author.Tests.{le-ltb, eq-eqb}
 use lib.Dec.{T}
@@ -61,9 +60,9 @@ row-from p (done w) h = h
 row-from p (refused n q) h = tt
 
 module _ (F : NumberFormat) (o : Options) where
-  fields-good : (above : Option Window) (s e : List ℕ) → OfRow (fieldsWindow F o above s e)
+  fields-good : (s e : List ℕ) → OfRow (fieldsWindow F o s e)
   unfolding fieldsWindow
-  fields-good above s e = go (readFloat binary64 F o s) refl (readFloat binary64 F o e) refl
+  fields-good s e = go (readFloat binary64 F o s) refl (readFloat binary64 F o e) refl
     where
       both : (x y : Float) → readFloat binary64 F o s ≡ done x → readFloat binary64 F o e ≡ done y → (b : Bool) → lt y x ≡ b → OfRow (cond b (refused 14 0) (done (record { start = x; end = y })))
       both x y f g true q = tt
@@ -77,34 +76,31 @@ module _ (F : NumberFormat) (o : Options) where
           }
 
       go : (a : Answer Float) → readFloat binary64 F o s ≡ a → (b : Answer Float) → readFloat binary64 F o e ≡ b
-          → OfRow (andThen a (λ x. andThen (from (length s + 1) b) (λ y. checked (windowChecks above (record { start = x; end = y })) (done (record { start = x; end = y })))))
+          → OfRow (andThen a (λ x. andThen (from (length s + 1) b) (λ y. checked (windowChecks (record { start = x; end = y })) (done (record { start = x; end = y })))))
       go (refused n p) f b g = tt
       go (done x) f (refused n p) g = tt
       go (done x) f (done y) g = both x y f g (lt y x) refl
 
-  row-good : (above : Option Window) (l : List ℕ) → OfRow (rowIn F o above l)
+  row-good : (l : List ℕ) → OfRow (rowIn F o l)
   unfolding rowIn lineWindow
-  row-good above l =
+  row-good l =
       let line = before 10 l in
       let s = before 32 line in
       let e = drop (length s + 1) line in
-      row-checked ((15, lacks 10 l) ∷ []) (lineWindow F o above line)
-      (row-checked ((15, lacks 32 line) ∷ (15, not (lacks 32 e)) ∷ []) (fieldsWindow F o above s e) (fields-good above s e))
+      row-checked ((15, lacks 10 l) ∷ []) (lineWindow F o line)
+      (row-checked ((15, lacks 32 line) ∷ (15, not (lacks 32 e)) ∷ []) (fieldsWindow F o s e) (fields-good s e))
 
-  lines-good : (k p : ℕ) (above : Option Window) (l : List ℕ) → OfRows (linesFrom F o k p above l)
+  lines-good : (k p : ℕ) (l : List ℕ) → OfRows (linesFrom F o k p l)
   unfolding linesFrom
-  lines-good zero p above [] = tt
-  lines-good zero p above (x ∷ xs) = tt
-  lines-good (suc k) p above l =
+  lines-good zero p [] = tt
+  lines-good zero p (x ∷ xs) = tt
+  lines-good (suc k) p l =
       let u = length (before 10 l) + 1 in
-      go (from p (rowIn F o above l)) (λ w. linesFrom F o k (p + u) (some w) (drop u l)) (row-from p (rowIn F o above l) (row-good above l)) (λ w. lines-good k (p + u) (some w) (drop u l))
+      go (from p (rowIn F o l)) (linesFrom F o k (p + u) (drop u l)) (row-from p (rowIn F o l) (row-good l)) (lines-good k (p + u) (drop u l))
     where
-      more : (w : Window) → Good w → (a : Answer (List Window)) → OfRows a → OfRows (andThen a (λ ws. done (w ∷ ws)))
-      more w g (done ws) h = (g, h)
-      more w g (refused n q) h = tt
-
-      go : (a : Answer Window) (rest : Window → Answer (List Window)) → OfRow a → ((w : Window) → OfRows (rest w)) → OfRows (andThen a (λ w. andThen (rest w) (λ ws. done (w ∷ ws))))
-      go (done w) rest g h = more w g (rest w) (h w)
+      go : (a : Answer Window) (rest : Answer (List Window)) → OfRow a → OfRows rest → OfRows (andThen a (λ w. andThen rest (λ ws. done (w ∷ ws))))
+      go (done w) (done ws) g h = (g, h)
+      go (done w) (refused n q) g h = tt
       go (refused n q) rest g h = tt
 
 -- ---- the table of windows, read
@@ -205,5 +201,5 @@ pub sheet-again : (F : NumberFormat) (o : Options) (s : List ℕ) (room : ℕ) (
 sheet-again F o s room t e G q row f =
     let k = stored F o s room t e in
     let p = length (before 10 s) + 1 in
-    let good : All Good (k .windows) = subst OfRows (k .are-rows) (lines-good F o (k .count) p none (drop p s)) in
+    let good : All Good (k .windows) = subst OfRows (k .are-rows) (lines-good F o (k .count) p (drop p s)) in
     subst (λ (l : List ℕ). (text : List ℕ) × (tableSheet G q l ≡ done text)) (k .is-table) (windows-sheet G q row f (k .windows) good (k .few))

@@ -3,7 +3,6 @@ use Prim.Native.Nat.{ℕ, suc, _+_, _<_}
 use mathlib.Core.Path.{_≡_, refl, sym, ap, _∙_}
 use mathlib.Core.Bool.{false}
 use mathlib.Core.List.{List, [], _∷_, _++_, append-assoc}
-use mathlib.Core.Option.{Option, some}
 use native.Mathlib.Omega.{arith}
 use borrow.Author.Tests.{eq-eqb, ne-eqb}
 use lib.Dec.{T}
@@ -33,18 +32,18 @@ pub record Sound (w : Window) : Type 0 where
   pub ordered : lt (w .end) (w .start) ≡ false
 
 -- ---- a line by its parts
-module _ (F : NumberFormat) (o : Options) (above : Option Window) where
-  line-is : (l line : List ℕ) → before 10 l ≡ line → length line < length l → rowIn F o above l ≡ lineWindow F o above line
+module _ (F : NumberFormat) (o : Options) where
+  line-is : (l line : List ℕ) → before 10 l ≡ line → length line < length l → rowIn F o l ≡ lineWindow F o line
   unfolding rowIn
   line-is l line e h = rw (e, ne-eqb (length line) (length l) (omega arith))
 
   fields-are : (line start end : List ℕ) → before 32 line ≡ start → length start < length line → drop (length start + 1) line ≡ end → before 32 end ≡ end
-      → lineWindow F o above line ≡ fieldsWindow F o above start end
+      → lineWindow F o line ≡ fieldsWindow F o start end
   unfolding lineWindow
   fields-are line start end f h g k = rw (f, ne-eqb (length start) (length line) (omega arith), g, k, eq-eqb (length end) (length end) refl)
 
   window-is : (w : Window) (start end : List ℕ) → readFloat binary64 F o start ≡ done (w .start) → readFloat binary64 F o end ≡ done (w .end) → lt (w .end) (w .start) ≡ false
-      → fieldsWindow F o above start end ≡ done w
+      → fieldsWindow F o start end ≡ done w
   unfolding fieldsWindow
   window-is w start end p q k = rw (p, q, k)
 
@@ -74,8 +73,8 @@ module _ (F : NumberFormat) (o : Options) (row : Pair) (F-taken : Taken F o row)
       go (done s) f (done u) g e = record { start-text = s; end-text = u; is-start = f; is-end = g; is-row = sym (done-same (rowBytes s u) t e) }
 
   -- the row stands in front of other bytes
-  row-back : (above : Option Window) (w : Window) → Sound w → (t r : List ℕ) → Texts w t → (rowIn F o above (t ++ r) ≡ done w) × (length (before 10 (t ++ r)) + 1 ≡ length t)
-  row-back above w sound t r h =
+  row-back : (w : Window) → Sound w → (t r : List ℕ) → Texts w t → (rowIn F o (t ++ r) ≡ done w) × (length (before 10 (t ++ r)) + 1 ≡ length t)
+  row-back w sound t r h =
       let s = h .start-text in
       let e = h .end-text in
       let line = s ++ (32 ∷ e) in
@@ -87,9 +86,9 @@ module _ (F : NumberFormat) (o : Options) (row : Pair) (F-taken : Taken F o row)
       let m : length line ≡ length s + suc (length e) = length-append s (32 ∷ e) in
       let k : length t ≡ length s + suc (length e + 1) = ap length (h .is-row) ∙ length-append s (32 ∷ (e ++ (10 ∷ []))) ∙ ap (λ (j : ℕ). length s + suc j) (length-append e (10 ∷ [])) in
       let back : (x : Float) (u : List ℕ) → T (fits binary64 x) → writeText F o x ≡ done u → readFloat binary64 F o u ≡ done x = λ x u f q. written-is-read-back binary64 F o x u f (F-taken .no-limit) q in (
-        line-is F o above (t ++ r) line found (omega arith)
-            ∙ fields-are F o above line s e (before-at 32 s e (lack 32 (omega arith) (w .start) s (h .is-start))) (omega arith) (drop-append-add s (32 ∷ e) 1) (before-all 32 e (lack 32 (omega arith) (w .end) e (h .is-end)))
-            ∙ window-is F o above w s e (back (w .start) s (sound .start-fits) (h .is-start)) (back (w .end) e (sound .end-fits) (h .is-end)) (sound .ordered),
+        line-is F o (t ++ r) line found (omega arith)
+            ∙ fields-are F o line s e (before-at 32 s e (lack 32 (omega arith) (w .start) s (h .is-start))) (omega arith) (drop-append-add s (32 ∷ e) 1) (before-all 32 e (lack 32 (omega arith) (w .end) e (h .is-end)))
+            ∙ window-is F o w s e (back (w .start) s (sound .start-fits) (h .is-start)) (back (w .end) e (sound .end-fits) (h .is-end)) (sound .ordered),
         omega (arith, ap length found, m, k),
       )
 
@@ -111,10 +110,10 @@ module _ (F : NumberFormat) (o : Options) (row : Pair) (F-taken : Taken F o row)
       go (done s) f (refused n p) g e = absurd (refused-done n p t e)
       go (done s) f (done u) g e = record { first = s; others = u; is-first = f; is-others = g; is-all = sym (done-same (s ++ u) t e) }
 
-  pub rows-back : (ws : List Window) → All Sound ws → (t : List ℕ) → rowsText F o ws ≡ done t → (p : ℕ) (above : Option Window) → linesFrom F o (length ws) p above t ≡ done ws
+  pub rows-back : (ws : List Window) → All Sound ws → (t : List ℕ) → rowsText F o ws ≡ done t → (p : ℕ) → linesFrom F o (length ws) p t ≡ done ws
   unfolding linesFrom rowsText
-  rows-back [] h t e p above = rw (sym (done-same [] t e))
-  rows-back (w ∷ ws) h t e p above =
+  rows-back [] h t e p = rw (sym (done-same [] t e))
+  rows-back (w ∷ ws) h t e p =
       let k = rows w ws t e in
-      let b = row-back above w (h .0) (k .first) (k .others) (texts w (k .first) (k .is-first)) in
-      rw (k .is-all, b .0, b .1, drop-append-seam (k .first) (k .others), rows-back ws (h .1) (k .others) (k .is-others) (p + length (k .first)) (some w))
+      let b = row-back w (h .0) (k .first) (k .others) (texts w (k .first) (k .is-first)) in
+      rw (k .is-all, b .0, b .1, drop-append-seam (k .first) (k .others), rows-back ws (h .1) (k .others) (k .is-others) (p + length (k .first)))

@@ -69,21 +69,18 @@ abbrev pub Counted : ℕ → Answer (List Window) → Type 0
 Counted n (done ws) = length ws ≡ n
 Counted n (refused k p) = Unit {0}
 
-counted-row : (k p : ℕ) (row : Answer Window) (more : Window → Answer (List Window)) → ((w : Window) → Counted k (more w)) → Counted (suc k) (andThen (from p row) (λ w. andThen (more w) (λ ws. done (w ∷ ws))))
-counted-row k p (refused j q) more h = tt
-counted-row k p (done w) more h = go (more w) (h w)
-  where
-    go : (rows : Answer (List Window)) → Counted k rows → Counted (suc k) (andThen rows (λ ws. done (w ∷ ws)))
-    go (done ws) c = ap suc c
-    go (refused j q) c = tt
+counted-row : (k p : ℕ) (row : Answer Window) (rows : Answer (List Window)) → Counted k rows → Counted (suc k) (andThen (from p row) (λ w. andThen rows (λ ws. done (w ∷ ws))))
+counted-row k p (refused j q) rows c = tt
+counted-row k p (done w) (refused j q) c = tt
+counted-row k p (done w) (done ws) c = ap suc c
 
-pub lines-counted : (F : NumberFormat) (o : Options) (k p : ℕ) (above : Option Window) (l : List ℕ) → Counted k (linesFrom F o k p above l)
+pub lines-counted : (F : NumberFormat) (o : Options) (k p : ℕ) (l : List ℕ) → Counted k (linesFrom F o k p l)
 unfolding linesFrom
-lines-counted F o zero p above [] = refl
-lines-counted F o zero p above (x ∷ xs) = tt
-lines-counted F o (suc k) p above l =
+lines-counted F o zero p [] = refl
+lines-counted F o zero p (x ∷ xs) = tt
+lines-counted F o (suc k) p l =
     let u = length (before 10 l) + 1 in
-    counted-row k p (rowIn F o above l) (λ w. linesFrom F o k (p + u) (some w) (drop u l)) (λ w. lines-counted F o k (p + u) (some w) (drop u l))
+    counted-row k p (rowIn F o l) (linesFrom F o k (p + u) (drop u l)) (lines-counted F o k (p + u) (drop u l))
 
 -- ---- the table of windows
 pub column-length : (c : Column) (ws : List Window) → length (columnBytes c ws) ≡ 8 * length ws
@@ -152,7 +149,7 @@ stored F o s room t e = by-format (readingFormat F o) e
     by-rows n c (refused k p) f e = absurd (refused-done k p t e)
     by-rows n c (done ws) f e =
         let same = done-same (tableOf ws) t e in
-        let many : length ws ≡ n = subst (Counted n) f (lines-counted F o n (length (before 10 s) + 1) none (drop (length (before 10 s) + 1) s)) in
+        let many : length ws ≡ n = subst (Counted n) f (lines-counted F o n (length (before 10 s) + 1) (drop (length (before 10 s) + 1) s)) in
         let few = count-few s n c in
         record {
           count = n;

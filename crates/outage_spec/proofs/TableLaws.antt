@@ -18,7 +18,7 @@ use Rattle.outage_spec.specs.declared.window.Window.{Window}
 use Rattle.outage_spec.specs.Words.{ofBytes, toBytes, wordAt}
 use Rattle.lexical_float.specs.Parts.{isPlain}
 use Rattle.outage_spec.specs.Window.{Column, columns, floatChecks, windowChecks, tableRow, from}
-use Rattle.outage_spec.specs.Table.{tableSize, columnBytes, tableOf, tableCount, floatAt, windowAt, rowAbove, rowAt, rowsFrom, mostWindows}
+use Rattle.outage_spec.specs.Table.{tableSize, columnBytes, tableOf, tableCount, floatAt, windowAt, rowAt, rowsFrom, mostWindows}
 use Rattle.outage_spec.proofs.WordLaws.{AreBytes, bytes-lt, bytes-of, all-take, all-drop, part-length}
 use Rattle.outage_spec.proofs.RowLaws.{Sound}
 
@@ -54,7 +54,7 @@ from-done p (refused n q) v e = absurd (refused-done n (p + q) v e)
 pub row-passes : (t : List ℕ) (n i : ℕ) (v : Window) → rowAt t n i ≡ done v → Passes (windowAt t n i) v
 row-passes t n i v e =
     let w = windowAt t n i in
-    let k = passed (floatChecks columns w ++ windowChecks (rowAbove t n i) w) w v (from-done _ (tableRow (rowAbove t n i) w) v e) in
+    let k = passed (floatChecks columns w ++ windowChecks w) w v (from-done _ (tableRow w) v e) in
     record {
       same = k .1;
       start-plain = not-false (isPlain (w .start)) (k .0 .0);

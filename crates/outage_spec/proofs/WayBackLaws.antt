@@ -3,7 +3,6 @@ use Prim.Native.Nat.{ℕ, suc, _+_, _≤_}
 use mathlib.Core.Path.{_≡_, refl, sym, ap, _∙_}
 use mathlib.Core.Bool.{Bool, true, false, cond}
 use mathlib.Core.List.{List, _∷_, _++_}
-use mathlib.Core.Option.{none}
 use native.Mathlib.Omega.{arith}
 use borrow.Author.Tests.{le-leb, ne-eqb, le-ltb}
 use lib.Dec.{leb}
@@ -93,7 +92,7 @@ table-again F o t text bytes e room enough =
     let many : length ws ≡ n = rows-count t n 0 n ws (k .are-windows) in
     let format = taken F o (k .row) (k .is-format) in
     let same : tableOf ws ≡ t = table-back t bytes n (h .size) ws h (k .are-windows) in
-    let rows-again = rows-back F o (k .row) format ws (rows-sound t n 0 n ws (k .are-windows)) (k .rows) (k .are-rows) (length (numeral 10 (length ws)) + 1) none in
+    let rows-again = rows-back F o (k .row) format ws (rows-sound t n 0 n ws (k .are-windows)) (k .rows) (k .are-rows) (length (numeral 10 (length ws)) + 1) in
     rw (
       k .is-text,
       format .reads,

@@ -73,31 +73,31 @@ sheetCount s = checked ((15, lacks 10 s) ∷ []) (orWrong (numberIn mostWindows 
 
 module _ (F : NumberFormat) (o : Options) where
   -- the start's refusal, the end's, then 14; the fields stand in a line, one space between them
-  unfoldable pub fieldsWindow : Option Window → List ℕ → List ℕ → Answer Window
-  fieldsWindow above start end =
+  unfoldable pub fieldsWindow : List ℕ → List ℕ → Answer Window
+  fieldsWindow start end =
       andThen (readFloat binary64 F o start)
       (λ x. andThen (from (length start + 1) (readFloat binary64 F o end))
-      (λ y. judged above (record { start = x; end = y })))
+      (λ y. judged (record { start = x; end = y })))
 
   -- a line without its LF. 15: not just one space in it
-  unfoldable pub lineWindow : Option Window → List ℕ → Answer Window
-  lineWindow above line =
+  unfoldable pub lineWindow : List ℕ → Answer Window
+  lineWindow line =
       let start = before 32 line in
       let end = drop (length start + 1) line in
-      checked ((15, lacks 32 line) ∷ (15, not (lacks 32 end)) ∷ []) (fieldsWindow above start end)
+      checked ((15, lacks 32 line) ∷ (15, not (lacks 32 end)) ∷ []) (fieldsWindow start end)
 
   -- the line in front of a list. 15: no LF
-  unfoldable pub rowIn : Option Window → List ℕ → Answer Window
-  rowIn above l = checked ((15, lacks 10 l) ∷ []) (lineWindow above (before 10 l))
+  unfoldable pub rowIn : List ℕ → Answer Window
+  rowIn l = checked ((15, lacks 10 l) ∷ []) (lineWindow (before 10 l))
 
   -- k rows in l, whose first byte stands at p in the sheet: the first refusal, row by row, with its place in the sheet; last 15 for extra bytes
-  unfoldable pub linesFrom : ℕ → ℕ → Option Window → List ℕ → Answer (List Window)
-  linesFrom zero p above [] = done []
-  linesFrom zero p above (x ∷ xs) = refused 15 p
-  linesFrom (suc k) p above l =
+  unfoldable pub linesFrom : ℕ → ℕ → List ℕ → Answer (List Window)
+  linesFrom zero p [] = done []
+  linesFrom zero p (x ∷ xs) = refused 15 p
+  linesFrom (suc k) p l =
       let u = length (before 10 l) + 1 in
-      andThen (from p (rowIn above l)) (λ w. andThen (linesFrom k (p + u) (some w) (drop u l)) (λ ws. done (w ∷ ws)))
+      andThen (from p (rowIn l)) (λ w. andThen (linesFrom k (p + u) (drop u l)) (λ ws. done (w ∷ ws)))
 
   -- the rows of a sheet, n of them, behind its count line
   abbrev pub sheetRows : List ℕ → ℕ → Answer (List Window)
-  sheetRows s n = let p = length (before 10 s) + 1 in linesFrom n p none (drop p s)
+  sheetRows s n = let p = length (before 10 s) + 1 in linesFrom n p (drop p s)

@@ -2,7 +2,6 @@
 use Prim.Native.Nat.{ℕ, zero, suc, _+_, _*_}
 use mathlib.Core.Bool.{not}
 use mathlib.Core.List.{List, [], _∷_, _++_}
-use mathlib.Core.Option.{Option, none, some}
 use lib.Dec.{ltb, eqb}
 use lib.ListN.{length}
 use lib.Ieee.{Float, binary64, ofBits, toBits}
@@ -57,14 +56,9 @@ floatAt t at = ofBits binary64 (wordAt floatSize t at)
 abbrev pub windowAt : List ℕ → ℕ → ℕ → Window
 windowAt t n i = record { start = floatAt t (headerSize + floatSize * i); end = floatAt t (headerSize + floatSize * n + floatSize * i) }
 
--- the row above row i
-abbrev pub rowAbove : List ℕ → ℕ → ℕ → Option Window
-rowAbove t n zero = none
-rowAbove t n (suc i) = some (windowAt t n i)
-
 -- the place of a row's refusal is its index
 abbrev pub rowAt : List ℕ → ℕ → ℕ → Answer Window
-rowAt t n i = from i (tableRow (rowAbove t n i) (windowAt t n i))
+rowAt t n i = from i (tableRow (windowAt t n i))
 
 -- k rows of n, from row i on: the first refusal, row by row
 unfoldable pub rowsFrom : List ℕ → ℕ → ℕ → ℕ → Answer (List Window)

@@ -2,7 +2,6 @@
 use Prim.Native.Nat.{ℕ, _+_}
 use mathlib.Core.Bool.{not}
 use mathlib.Core.List.{List, [], _∷_, _++_}
-use mathlib.Core.Option.{Option}
 use lib.Ieee.{Float, lt}
 use Rattle.lexical_util.specs.Answer.{Answer, done, refused, Check, checked}
 use Rattle.lexical_float.specs.Parts.{isPlain}
@@ -20,17 +19,17 @@ abbrev pub floatChecks : List Column → Window → List Check
 floatChecks [] w = []
 floatChecks (c ∷ cs) w = (7, not (isPlain (c w))) ∷ floatChecks cs w
 
--- 14 end below start. The window of the row above, if there is one, stands ready for checks that hold two rows against each other; there is none yet.
-abbrev pub windowChecks : Option Window → Window → List Check
-windowChecks above w = (14, lt (w .end) (w .start)) ∷ []
+-- 14 end below start
+abbrev pub windowChecks : Window → List Check
+windowChecks w = (14, lt (w .end) (w .start)) ∷ []
 
 -- a row of a sheet, whose floats have been read
-abbrev pub judged : Option Window → Window → Answer Window
-judged above w = checked (windowChecks above w) (done w)
+abbrev pub judged : Window → Answer Window
+judged w = checked (windowChecks w) (done w)
 
 -- a row of a table
-abbrev pub tableRow : Option Window → Window → Answer Window
-tableRow above w = checked (floatChecks columns w ++ windowChecks above w) (done w)
+abbrev pub tableRow : Window → Answer Window
+tableRow w = checked (floatChecks columns w ++ windowChecks w) (done w)
 
 -- an answer whose places are counted from p on
 abbrev pub from : {A : Type 0} → ℕ → Answer A → Answer A

@@ -2,7 +2,6 @@
 use Prim.Native.Nat.{ℕ, _+_, _*_, _^_, _≤_, _<_}
 use mathlib.Core.Path.{_≡_, ap, _∙_}
 use mathlib.Core.Bool.{Bool, true, false, cond}
-use mathlib.Core.Option.{none}
 use mathlib.Core.List.{List}
 use native.Mathlib.Nat.{add-zero}
 use native.Mathlib.Omega.{arith}
@@ -43,7 +42,7 @@ module _ (t : List ℕ) (n : ℕ) (e : n ≡ wordAt 4 t 0) (h : 8 ≤ length t) 
 
 -- ---- a row by the bits of its floats
 -- a checked window's refusal has place 0
-judged-place : (w : Window) (r p : ℕ) → refused r p ≡ judged none w → p ≡ 0
+judged-place : (w : Window) (r p : ℕ) → refused r p ≡ judged w → p ≡ 0
 judged-place w r p h = go (lt (w .end) (w .start)) h
   where
     go : (b : Bool) → refused r p ≡ cond b (refused 14 0) (done w) → p ≡ 0
@@ -65,10 +64,10 @@ module _ (t : List ℕ) (n i a : ℕ) (e : a ≡ wordAt 8 t (8 + 8 * i)) where
     pub end-bad : b < 256 ^ 8 → 9218868437227405312 ≤ b → refused 7 i ≡ rowAt t n i
     end-bad h m = rw (bits-yes _ a e k, bits-no _ b f h m, add-zero i)
 
-    pub both-plain : b < 9218868437227405312 → (r : Answer Window) → r ≡ judged none (record { start = ofBits binary64 a; end = ofBits binary64 b }) → from i r ≡ rowAt t n i
+    pub both-plain : b < 9218868437227405312 → (r : Answer Window) → r ≡ judged (record { start = ofBits binary64 a; end = ofBits binary64 b }) → from i r ≡ rowAt t n i
     both-plain m r w = rw (bits-yes _ a e k, bits-yes _ b f m) (ap (from i) (rw (e, f) at w))
 
-    pub both-refused : b < 9218868437227405312 → (r p : ℕ) → refused r p ≡ judged none (record { start = ofBits binary64 a; end = ofBits binary64 b }) → refused r i ≡ rowAt t n i
+    pub both-refused : b < 9218868437227405312 → (r p : ℕ) → refused r p ≡ judged (record { start = ofBits binary64 a; end = ofBits binary64 b }) → refused r i ≡ rowAt t n i
     both-refused m r p w =
         let z : i ≡ i + p = omega (arith, judged-place (record { start = ofBits binary64 a; end = ofBits binary64 b }) r p w) in
         ap (refused r) z ∙ both-plain m (refused r p) w

@@ -2,7 +2,6 @@
 use Prim.Native.Nat.{ℕ, _+_, _-_, _≤_, _<_}
 use mathlib.Core.Path.{_≡_, ap}
 use mathlib.Core.List.{List}
-use mathlib.Core.Option.{none}
 use native.Mathlib.Omega.{arith}
 use borrow.Author.Needs.{needs}
 use lib.ListN.{length, drop}
@@ -85,7 +84,7 @@ module _ (r : tie.After-row-in Inv-loop μ-loop) where
   end-is = end-there s p m (r .before .before .find .ensures .0)
 
   module _ (x : Answer Window) (e : ofCheckedWindow (r .row-in .result) ≡ x) where
-    row-is : rowIn (start .args .format) (start .args .options) none (drop p s) ≡ x
+    row-is : rowIn (start .args .format) (start .args .options) (drop p s) ≡ x
     row-is = row-there (start .args .format) (start .args .options) s p (ofCheckedWindow (r .row-in .result)) x (r .row-in .ensures) e
 
     known : Within Stored (length s - p) x
@@ -99,7 +98,7 @@ module _ (k : tie.After-window Inv-loop μ-loop) where
   abbrev w : Window
   w = k .window .given .0 .0
 
-  row-done : rowIn (start passed .args .format) (start passed .args .options) none (drop (p passed) (s passed)) ≡ done w
+  row-done : rowIn (start passed .args .format) (start passed .args .options) (drop (p passed) (s passed)) ≡ done w
   row-done = row-is passed (done w) (ap ofCheckedWindow (k .window .given .1))
 
   inside : p passed + m passed < length (s passed)

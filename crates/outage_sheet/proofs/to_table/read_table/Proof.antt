@@ -2,7 +2,6 @@
 use Prim.Native.Nat.{ℕ}
 use mathlib.Core.Path.{_≡_, sym, ap, _∙_}
 use mathlib.Core.List.{List}
-use mathlib.Core.Option.{none}
 use native.Mathlib.Omega.{arith}
 use lib.ListN.{drop, replicate, length-replicate}
 use lib.Seq.{length-take-le}
@@ -22,7 +21,7 @@ start r = r .before .before .before .before .before .before .before
 
 -- the rows of the sheet
 abbrev rows : tie.After-read-rows → Answer (List Window)
-rows r = let a = start r .args in linesFrom (a .format) (a .options) (a .n) (a .from) none (drop (a .from) (a .sheet .now))
+rows r = let a = start r .args in linesFrom (a .format) (a .options) (a .n) (a .from) (drop (a .from) (a .sheet .now))
 
 -- what came of reading them
 read : (k : tie.After-size) → done (k .size .given .0 .0) ≡ sizeOf (start (k .before .before .before) .args .n) (rows (k .before .before .before))
@@ -67,7 +66,7 @@ returns c =
     let r = k .before .before .before in
     let a = start r .args in
     table-read (a .n) (replicate {A = ℕ} (tableSize mostWindows) 0) (a .table .now) (omega (arith, length-replicate {A = ℕ} (tableSize mostWindows) 0)) (omega arith) (rows r)
-    (lines-counted (a .format) (a .options) (a .n) (a .from) none (drop (a .from) (a .sheet .now)))
+    (lines-counted (a .format) (a .options) (a .n) (a .from) (drop (a .from) (a .sheet .now)))
     (k .size .given .0 .0) (read k) _ _ (r .before .before .before .put-header .ensures) (r .read-rows .ensures .1) _ _ (c .before .before .put-bytes .ensures)
 
 returns-2 : tie.Need-returns-2
