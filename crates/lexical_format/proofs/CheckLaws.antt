@@ -12,7 +12,7 @@ use Rattle.lexical_format.specs.declared.format.Pair.{Pair}
 use Rattle.lexical_format.specs.declared.format.NumberFormat.{NumberFormat}
 use Rattle.lexical_format.specs.declared.options.Options.{Options}
 use Rattle.lexical_format.specs.Code.{readingOf}
-use Rattle.lexical_format.specs.Format.{pairOf, badBytes, orAbsent, readingChecks, writingChecks, checkedPair, readingFormat, writingFormat, settled, checkedFormat}
+use Rattle.lexical_format.specs.Format.{pairOf, badBytes, badCounts, orAbsent, readingChecks, writingChecks, checkedPair, readingFormat, writingFormat, settled, checkedFormat}
 
 -- ---- a byte by its digit value
 pub digit-of : (radix x d : ℕ) → digitValue x ≡ some d → ltb d radix ≡ isDigit radix x
@@ -58,15 +58,18 @@ checked-then (c ∷ cs) a step = go (c .1) (checked-then cs a step)
     go false e = e
 
 -- the writer's check is the reader's, then its own three
-pub writer-after-reader : (F : NumberFormat) (o : Options) → checkedFormat F o ≡ andThen (readingFormat F o) (λ row. checked (writingChecks F o) (done (settled o row)))
+pub writer-after-reader : (F : NumberFormat) (o : Options) → checkedFormat F o ≡ andThen (readingFormat F o) (λ row. checked (writingChecks (badCounts o) F o) (done (settled o row)))
 unfolding checkedFormat writingFormat readingFormat
 writer-after-reader F o = go (pairOf F)
   where
+    own : List Check
+    own = writingChecks (badCounts o) F o
+
     go : (found : Option Pair)
-        → andThen (checkedPair (readingChecks F o ++ writingChecks F o) found) (λ row. done (settled o row))
-        ≡ andThen (checkedPair (readingChecks F o) found) (λ row. checked (writingChecks F o) (done (settled o row)))
+        → andThen (checkedPair (readingChecks F o ++ own) found) (λ row. done (settled o row))
+        ≡ andThen (checkedPair (readingChecks F o) found) (λ row. checked own (done (settled o row)))
     go none = refl
     go (some row) =
-        checked-then (readingChecks F o ++ writingChecks F o) row (λ row. done (settled o row))
-        ∙ checked-append (readingChecks F o) (writingChecks F o) (done (settled o row))
-        ∙ sym (checked-then (readingChecks F o) row (λ row. checked (writingChecks F o) (done (settled o row))))
+        checked-then (readingChecks F o ++ own) row (λ row. done (settled o row))
+        ∙ checked-append (readingChecks F o) own (done (settled o row))
+        ∙ sym (checked-then (readingChecks F o) row (λ row. checked own (done (settled o row))))

@@ -165,10 +165,10 @@ pub writable : (F : NumberFormat) (o : Options) (row : Pair) → writingFormat F
 unfolding writingFormat badCounts
 writable F o row e = go (pairOf F) refl e
   where
-    go : (p : Option Pair) → pairOf F ≡ p → checkedPair (readingChecks F o ++ writingChecks F o) p ≡ done row → Writable F o row
+    go : (p : Option Pair) → pairOf F ≡ p → checkedPair (readingChecks F o ++ writingChecks (badCounts o) F o) p ≡ done row → Writable F o row
     go none q e = absurd (refused-done 1 0 row e)
     go (some found) q e =
-        let k = with-row F o found row (writingChecks F o) q e in
+        let k = with-row F o found row (writingChecks (badCounts o) F o) q e in
         let a = neither (ltb mostCount (o .«min_significant_digits»)) _ (k .1 .1 .0) in
         let b = neither (ltb mostCount (o .«max_significant_digits»)) _ (a .1) in
         record {
@@ -192,6 +192,6 @@ writable-reads F o row e = go (pairOf F) e
         at true k q = q
         at false k q = k q
 
-    go : (p : Option Pair) → checkedPair (readingChecks F o ++ writingChecks F o) p ≡ done row → checkedPair (readingChecks F o) p ≡ done row
+    go : (p : Option Pair) → checkedPair (readingChecks F o ++ writingChecks (badCounts o) F o) p ≡ done row → checkedPair (readingChecks F o) p ≡ done row
     go none e = e
-    go (some found) e = fewer (readingChecks F o) (writingChecks F o) found e
+    go (some found) e = fewer (readingChecks F o) (writingChecks (badCounts o) F o) found e

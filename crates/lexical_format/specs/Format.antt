@@ -87,9 +87,9 @@ badBreaks o = outside (negℤ (pos farthestBreak)) (negsuc 0) (lowBreak o) || ou
 abbrev pub readingChecks : NumberFormat → Options → List Check
 readingChecks F o = (2, not (isRadix (F .«exponent_radix»))) ∷ (3, badBytes F o) ∷ []
 
--- and for the writer: 4 exponent both required and forbidden; 5 counts; 6 breaks
-abbrev pub writingChecks : NumberFormat → Options → List Check
-writingChecks F o = (4, F .«required_exponent_notation» && F .«no_exponent_notation») ∷ (5, badCounts o) ∷ (6, badBreaks o) ∷ []
+-- and for the writer: 4 exponent both required and forbidden; 5 counts, as they are judged; 6 breaks
+abbrev pub writingChecks : Bool → NumberFormat → Options → List Check
+writingChecks badCount F o = (4, F .«required_exponent_notation» && F .«no_exponent_notation») ∷ (5, badCount) ∷ (6, badBreaks o) ∷ []
 
 -- 1 pair unknown, then the others
 abbrev pub checkedPair : List Check → Option Pair → Answer Pair
@@ -100,9 +100,13 @@ checkedPair checks (some row) = checked checks (done row)
 unfoldable pub readingFormat : NumberFormat → Options → Answer Pair
 readingFormat F o = checkedPair (readingChecks F o) (pairOf F)
 
+-- 1 to 6, with 5 judged so
+abbrev pub judgedFormat : Bool → NumberFormat → Options → Answer Pair
+judgedFormat badCount F o = checkedPair (readingChecks F o ++ writingChecks badCount F o) (pairOf F)
+
 -- the writer's 1 to 6
 unfoldable pub writingFormat : NumberFormat → Options → Answer Pair
-writingFormat F o = checkedPair (readingChecks F o ++ writingChecks F o) (pairOf F)
+writingFormat F o = judgedFormat (badCounts o) F o
 
 -- ---- what the calls answer
 -- what the writer's later steps need: b, c, and the breaks, in bits, with none absent

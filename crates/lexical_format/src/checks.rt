@@ -123,7 +123,7 @@ pub fn check_reading(format: NumberFormat, options: Options) -> ReadingCheck
 
 // 4, 5, 6 of a format that passed the reader's check with the row.
 fn check_writing(format: NumberFormat, options: Options, row: Pair) -> WritingCheck
-    ensures { λ r. ⌜ ofWritingCheck r ≡ checked (writingChecks format options) (done (settled options row)) ⌝ }
+    ensures { λ r. ⌜ ofWritingCheck r ≡ checked (writingChecks (badCounts options) format options) (done (settled options row)) ⌝ }
 {
     if format.required_exponent_notation && format.no_exponent_notation {
         return WritingCheck::Refused(Refusal {

@@ -1,28 +1,24 @@
 -- What the two calls are asked for: document 01, "Table to sheet" and "Sheet to table". Their answers and the lent bytes are `written` and `held` of it. Definitions only.
 use Prim.Native.Nat.{ℕ, _≤_}
 use mathlib.Core.Path.{_≡_}
-use mathlib.Core.Bool.{_&&_, _||_}
+use mathlib.Core.Bool.{_||_}
 use mathlib.Core.List.{List, [], _∷_, _++_}
 use lib.Dec.{ltb}
 use lib.ListN.{length, take, drop}
-use Rattle.lexical_util.specs.Answer.{Answer, done, refused, andThen, Check, checked, written, held}
+use Rattle.lexical_util.specs.Answer.{Answer, done, refused, andThen, checked, written, held}
 use Rattle.lexical_format.specs.declared.format.NumberFormat.{NumberFormat}
 use Rattle.lexical_format.specs.declared.format.Pair.{Pair}
 use Rattle.lexical_format.specs.declared.options.Options.{Options}
-use Rattle.lexical_format.specs.Format.{pairOf, readingChecks, given, badCounts, badBreaks, checkedPair, readingFormat}
+use Rattle.lexical_format.specs.Format.{given, badCounts, readingFormat, judgedFormat}
 use Rattle.outage_spec.specs.Table.{tableSize, tableOf, tableWindows}
 use Rattle.outage_spec.specs.Sheet.{sheetSize, sheetOf, sheetCount, sheetRows}
 use Rattle.lexical_write_float_spec.specs.Write.{longestText}
 
 module _ (F : NumberFormat) (o : Options) where
   -- ---- table to sheet
-  -- 4; 5, also for any digit limit; 6
-  abbrev pub sheetChecks : List Check
-  sheetChecks = (4, F .«required_exponent_notation» && F .«no_exponent_notation») ∷ (5, badCounts o || given (o .«max_significant_digits»)) ∷ (6, badBreaks o) ∷ []
-
-  -- 1 to 6
+  -- 1 to 4; 5, also for any digit limit; 6
   unfoldable pub sheetFormat : Answer Pair
-  sheetFormat = checkedPair (readingChecks F o ++ sheetChecks) (pairOf F)
+  sheetFormat = judgedFormat (badCounts o || given (o .«max_significant_digits»)) F o
 
   -- then 13; by row 7 start, 7 end, 14
   unfoldable pub tableSheet : List ℕ → Answer (List ℕ)
