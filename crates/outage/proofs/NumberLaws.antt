@@ -1,17 +1,19 @@
--- A number in radix 10: one digit more, by its cases, and where the first byte decides. Assumes nothing.
+-- A number in radix 10, digit by digit: one digit more, by its cases, and that it is what the digits spell. Assumes nothing.
 use Prim.Native.Nat.{ℕ, _+_, _*_, _≤_, _<_}
 use mathlib.Core.Path.{_≡_, refl, sym, _∙_}
+use mathlib.Core.Bool.{Bool, true, false, cond}
 use mathlib.Core.List.{List, [], _∷_}
-use mathlib.Core.Option.{none, some}
+use mathlib.Core.Option.{Option, none, some}
 use native.Mathlib.Numerals.{add-one}
-use native.Mathlib.Omega.{arith}
-use borrow.Author.Tests.{le-leb, lt-leb, lt-ltb, le-ltb, eq-eqb}
-use lib.ListN.{length, drop, getD, drop-of-length-le}
+use borrow.Author.Tests.{le-leb, lt-leb, leb-true, leb-false, lt-ltb, le-ltb}
+use lib.Dec.{leb}
+use lib.ListN.{length, drop, drop-of-length-le}
 use lib.Seq.{drop-cons}
 use Rattle.lexical_util.specs.Digit.{digitIn}
 use Rattle.lexical_reader.specs.Place.{digitAt, placeAfter}
 use Rattle.lexical_reader.proofs.PlaceLaws.{digit-here, place-here}
-use Rattle.outage_spec.specs.Sheet.{numberOn, numberIn}
+use Rattle.outage_spec.proofs.NumberLaws.{spelled, spelled-end, spelled-above, spelled-other, spelled-digit}
+use Rattle.outage.specs.Code.{onDigit, numberOn}
 
 -- ---- the digits of l from the place i on, behind those that spell a
 module _ (limit a : ℕ) (l : List ℕ) (i : ℕ) where
@@ -36,15 +38,16 @@ module _ (limit a : ℕ) (l : List ℕ) (i : ℕ) where
     unfolding numberOn digitIn
     at-next k m = rw (drop-cons l i 0 h, sym (digit-here l i h) ∙ e, lt-ltb d 10 k, le-leb (a * 10 + d) limit m, place-here l i h, add-one)
 
--- ---- the first byte
-module _ (limit : ℕ) where
-  pub in-none : (l : List ℕ) → length l ≡ 0 → numberIn limit l ≡ none
-  unfolding numberIn
-  in-none [] h = refl
-  in-none (x ∷ xs) h = absurd (omega arith)
+-- ---- no number on the way is above the limit just where the last one is not
+pub on-is : (limit : ℕ) (l : List ℕ) (a : ℕ) → a ≤ limit → numberOn limit a l ≡ spelled limit a l
+unfolding numberOn
+on-is limit [] a h = sym (spelled-end limit a h)
+on-is limit (x ∷ xs) a h = go (digitIn 10 x) refl (on-is limit xs)
+  where
+    next : (b : ℕ) (t : Bool) → leb b limit ≡ t → (b ≤ limit → numberOn limit b xs ≡ spelled limit b xs) → cond t (numberOn limit b xs) none ≡ spelled limit b xs
+    next b true q more = more (leb-true b limit q)
+    next b false q more = sym (spelled-above limit b xs (leb-false b limit q))
 
-  pub in-zero : (l : List ℕ) → 1 < length l → getD l 0 0 ≡ 48 → numberIn limit l ≡ none
-  unfolding numberIn
-  in-zero [] h k = absurd (omega arith)
-  in-zero (x ∷ []) h k = absurd (omega arith)
-  in-zero (x ∷ y ∷ ys) h k = rw (eq-eqb x 48 k)
+    go : (v : Option ℕ) → digitIn 10 x ≡ v → ((b : ℕ) → b ≤ limit → numberOn limit b xs ≡ spelled limit b xs) → onDigit limit a v (λ b. numberOn limit b xs) ≡ spelled limit a (x ∷ xs)
+    go none e more = sym (spelled-other limit a x xs e)
+    go (some d) e more = next (a * 10 + d) (leb (a * 10 + d) limit) refl (more (a * 10 + d)) ∙ sym (spelled-digit limit a x xs d e)

@@ -2,8 +2,9 @@
 ghost use mathlib.Core.Path.{_≡_};
 ghost use Prim.Native.Nat.{_≤_};
 ghost use lib.ListN.{length};
-ghost use Rattle.outage_spec.specs.Sheet.{before, numberOn, numberIn};
+ghost use Rattle.outage_spec.specs.Sheet.{before, numberIn};
 ghost use Rattle.outage.specs.Answer.{ofNumber};
+ghost use Rattle.outage.specs.Code.{numberOn};
 use lexical_reader::next_digit;
 use lexical_util::DigitValue;
 

@@ -14,6 +14,7 @@ use Rattle.lexical_util.proofs.AnswerLaws.{refused-done}
 use Rattle.lexical_rewrite_spec.specs.declared.text_format.TextFormat.{TextFormat}
 use Rattle.outage_spec.specs.Sheet.{before, numberIn}
 use Rattle.outage_spec.proofs.BeforeLaws.{before-take}
+use Rattle.outage_spec.proofs.NumberLaws.{in-none}
 use Rattle.outage_console.specs.Argument.{ifAdmitted, admitted, ofNumbers, formatNamed}
 
 -- ---- what the format's check tells
@@ -56,18 +57,18 @@ no-power (some r) (some b) = refl
 module _ (text : List ℕ) where
   -- no "/"
   pub one-part : length (before 47 text) ≡ length text → none ≡ formatNamed text
-  unfolding formatNamed before numberIn
+  unfolding formatNamed before
   one-part h =
       let rest : drop (length (before 47 text) + 1) text ≡ [] = drop-of-length-le text {i = length (before 47 text) + 1} (omega arith) in
-      rw rest (no-base (numberIn 32 (before 47 text)) none)
+      rw (rest, in-none 32 [] refl) (no-base (numberIn 32 (before 47 text)) none)
 
   module _ (rest : List ℕ) (is-rest : drop (length (before 47 text) + 1) text ≡ rest) where
     -- one "/"
     pub two-parts : length (before 47 rest) ≡ length rest → none ≡ formatNamed text
-    unfolding formatNamed numberIn
+    unfolding formatNamed
     two-parts h =
         let power : drop (length (before 47 rest) + 1) rest ≡ [] = drop-of-length-le rest {i = length (before 47 rest) + 1} (omega arith) in
-        rw (is-rest, power) (no-power (numberIn 32 (before 47 text)) (numberIn 32 (before 47 rest)))
+        rw (is-rest, power, in-none 32 [] refl) (no-power (numberIn 32 (before 47 text)) (numberIn 32 (before 47 rest)))
 
     pub three-parts : ofNumbers (numberIn 32 (before 47 text)) (numberIn 32 (before 47 rest)) (numberIn 32 (drop (length (before 47 rest) + 1) rest)) ≡ formatNamed text
     unfolding formatNamed

@@ -1,72 +1,157 @@
--- The numeral of a number in radix 10 is read back as the number. Assumes nothing.
-use Prim.Native.Nat.{ℕ, _+_, _*_, _/_, _%_, _≤_, _<_}
+-- The number in radix 10 that a text is: that of a numeral, one at most its limit, and digit by digit. Assumes nothing.
+use Prim.Native.Nat.{ℕ, zero, suc, _+_, _*_, _/_, _≤_, _<_}
 use mathlib.Core.Path.{_≡_, refl, sym, ap, _∙_}
-use mathlib.Core.Bool.{Bool, true, false}
-use mathlib.Core.List.{List, [], _∷_, _++_, append-assoc, append-nil, map}
-use mathlib.Core.Option.{some}
-use native.Mathlib.Nat.{zero-mul, zero-add}
+use mathlib.Core.Bool.{Bool, true, false, cond, _&&_, and-false}
+use mathlib.Core.List.{List, [], _∷_}
+use mathlib.Core.Option.{Option, none, some}
 use native.Mathlib.Omega.{arith}
-use borrow.Author.Tests.{le-leb, ne-eqb, ltb-true, ltb-false}
-use lib.Dec.{ltb}
-use lib.ListN.{length, getD}
-use Rattle.lexical_util.specs.Digit.{digitByte}
-use Rattle.lexical_util.proofs.DigitLaws.{digit-in, byte-figure, byte-capital}
+use borrow.Author.Tests.{le-leb, lt-leb, leb-true, eq-eqb, ne-eqb, eqb-true}
+use lib.Dec.{leb, eqb, eqb·zero-suc, eqb·suc-suc}
+use lib.ListN.{length, getD, length-map}
+use Rattle.lexical_util.specs.Digit.{digitByte, digitIn, AreDigits, readOn, digitsValue}
+use Rattle.lexical_util.proofs.DigitLaws.{in-digit, byte-figure}
 use Rattle.lexical_write_integer_spec.specs.Digits.{digits, numeral}
-use Rattle.lexical_write_integer_spec.proofs.DigitsLaws.{by-quotient, numeral-lt, numeral-ge, length-numeral, count-pos, first-pos}
-use Rattle.outage_spec.specs.Sheet.{numberOn, numberIn}
+use Rattle.lexical_write_integer_spec.proofs.DigitsLaws.{digits-value, digits-below, count-lt, count-ge, count-pos}
+use Rattle.lexical_read_float_spec.specs.Parse.{run, more}
+use Rattle.lexical_read_float_spec.proofs.RunLaws.{run-stops, run-all, is-run}
+use Rattle.outage_spec.specs.Sheet.{numberIn}
 
--- one digit more
-pub on-digit : (limit a d : ℕ) (xs : List ℕ) → d < 10 → a * 10 + d ≤ limit → numberOn limit a (digitByte d ∷ xs) ≡ numberOn limit (a * 10 + d) xs
-unfolding numberOn
-on-digit limit a d xs h k = rw (digit-in 10 d h (omega arith), le-leb (a * 10 + d) limit k)
+-- the digits in front of a text, and how many digits the number has that digits spell
+abbrev front : List ℕ → List ℕ
+front l = run 10 l .got
 
-read-on : (limit x : ℕ) → x ≤ limit → (xs : List ℕ) → numberOn limit 0 (numeral 10 x ++ xs) ≡ numberOn limit x xs
-read-on limit = by-quotient 10 (omega arith) (λ x. x ≤ limit → (xs : List ℕ) → numberOn limit 0 (numeral 10 x ++ xs) ≡ numberOn limit x xs) small step
-  where
-    small : (x : ℕ) → x < 10 → x ≤ limit → (xs : List ℕ) → numberOn limit 0 (numeral 10 x ++ xs) ≡ numberOn limit x xs
-    small x h k xs = rw (numeral-lt 10 x h) (on-digit limit 0 x xs h (omega arith) ∙ rw (zero-mul, zero-add))
+abbrev count : List ℕ → ℕ
+count ds = length (digits 10 (digitsValue 10 ds))
 
-    step : (x : ℕ) → 10 ≤ x → (x / 10 ≤ limit → (xs : List ℕ) → numberOn limit 0 (numeral 10 (x / 10) ++ xs) ≡ numberOn limit (x / 10) xs)
-        → x ≤ limit → (xs : List ℕ) → numberOn limit 0 (numeral 10 x ++ xs) ≡ numberOn limit x xs
-    step x h ih k xs =
-        let e : x / 10 * 10 + x % 10 ≡ x = omega arith in
-        rw (numeral-ge 10 x (omega arith) h, append-assoc) (ih (omega arith) (digitByte (x % 10) ∷ xs) ∙ on-digit limit (x / 10) (x % 10) xs (omega arith) (omega arith) ∙ rw e)
-
--- ---- no "0" in front of others
-pub one : (limit : ℕ) (l : List ℕ) → length l ≡ 1 → numberIn limit l ≡ numberOn limit 0 l
-unfolding numberIn
-one limit [] h = absurd (omega arith)
-one limit (x ∷ []) h = refl
-one limit (x ∷ y ∷ ys) h = absurd (omega arith)
-
-pub no-zero : (limit : ℕ) (l : List ℕ) → 0 < length l → (getD l 0 0 ≡ 48 → ⊥) → numberIn limit l ≡ numberOn limit 0 l
-unfolding numberIn
-no-zero limit [] h k = absurd (omega arith)
-no-zero limit (x ∷ []) h k = refl
-no-zero limit (x ∷ y ∷ ys) h k = rw (ne-eqb x 48 k)
-
-first-byte : (ds : List ℕ) → 0 < length ds → getD (map digitByte ds) 0 0 ≡ digitByte (getD ds 0 0)
-first-byte [] h = absurd (omega arith)
-first-byte (d ∷ ds) h = refl
-
-digit-byte-pos : (d : ℕ) → 0 < d → digitByte d ≡ 48 → ⊥
-digit-byte-pos d h = go (ltb d 10) refl
-  where
-    go : (b : Bool) → ltb d 10 ≡ b → digitByte d ≡ 48 → ⊥
-    go true e q = omega (arith, sym (byte-figure d (ltb-true d 10 e)) ∙ q)
-    go false e q = omega (arith, sym (byte-capital d (ltb-false d 10 e)) ∙ q)
-
-some-bytes : (x : ℕ) → 0 < length (numeral 10 x)
-some-bytes x = rw (length-numeral 10 x) (count-pos 10 (omega arith) x)
-
-first-off : (x : ℕ) → 0 < x → getD (numeral 10 x) 0 0 ≡ 48 → ⊥
-unfolding numeral
-first-off x h q = digit-byte-pos (getD (digits 10 x) 0 0) (first-pos 10 (omega arith) x h) (sym (first-byte (digits 10 x) (count-pos 10 (omega arith) x)) ∙ q)
-
+-- ---- the number of a numeral
 pub number-numeral : (limit x : ℕ) → x ≤ limit → numberIn limit (numeral 10 x) ≡ some x
-unfolding numberOn
-number-numeral limit x h = whole (ltb x 10) refl ∙ ap (numberOn limit 0) (sym (append-nil (numeral 10 x))) ∙ read-on limit x h []
+unfolding numberIn numeral
+number-numeral limit x h =
+    rw (
+      run-all 10 (digits 10 x) (omega arith) (digits-below 10 (omega arith) x),
+      digits-value 10 (omega arith) x,
+      length-map (digits 10 x) digitByte,
+      eq-eqb (length (digits 10 x)) (length (digits 10 x)) refl,
+      le-leb x limit h,
+    )
+
+-- ---- a number is at most its limit
+pub number-le : (limit : ℕ) (l : List ℕ) (n : ℕ) → numberIn limit l ≡ some n → n ≤ limit
+unfolding numberIn
+number-le limit l n e = go (eqb (length (front l)) (length l)) (eqb (count (front l)) (length l)) (leb m limit) refl e
   where
-    whole : (t : Bool) → ltb x 10 ≡ t → numberIn limit (numeral 10 x) ≡ numberOn limit 0 (numeral 10 x)
-    whole true e = one limit (numeral 10 x) (ap length (numeral-lt 10 x (ltb-true x 10 e)))
-    whole false e = no-zero limit (numeral 10 x) (some-bytes x) (first-off x (omega (arith, ltb-false x 10 e)))
+    m : ℕ
+    m = digitsValue 10 (front l)
+
+    none-some : none ≡ some n → ⊥
+    none-some e = let z : _≡_ {A = ℕ} 0 1 = cc in omega arith
+
+    go : (a b c : Bool) → leb m limit ≡ c → cond (a && (b && c)) (some m) none ≡ some n → n ≤ limit
+    go true true true q e = let z : m ≡ n = cc in omega (arith, leb-true m limit q)
+    go true true false q e = absurd (none-some e)
+    go true false c q e = absurd (none-some e)
+    go false b c q e = absurd (none-some e)
+
+-- ---- digits only, behind those that spell a, and at most a limit; leading zeros pass
+abbrev pub spelled : ℕ → ℕ → List ℕ → Option ℕ
+spelled limit a l =
+    let ds = run 10 l .got in
+    let n = readOn 10 a ds in
+    cond (eqb (length ds) (length l) && leb n limit) (some n) none
+
+read-ge : (a : ℕ) (ds : List ℕ) → a ≤ readOn 10 a ds
+unfolding readOn
+read-ge a [] = omega arith
+read-ge a (d ∷ ds) = omega (arith, read-ge (a * 10 + d) ds)
+
+module _ (limit a : ℕ) where
+  pub spelled-end : a ≤ limit → spelled limit a [] ≡ some a
+  unfolding run readOn
+  spelled-end h = rw (le-leb a limit h)
+
+  pub spelled-above : (l : List ℕ) → limit < a → spelled limit a l ≡ none
+  spelled-above l h = rw (lt-leb (readOn 10 a (front l)) limit (omega (arith, read-ge a (front l))), and-false)
+
+  module _ (x : ℕ) (xs : List ℕ) where
+    pub spelled-other : digitIn 10 x ≡ none → spelled limit a (x ∷ xs) ≡ none
+    spelled-other e = rw (run-stops 10 x xs e, eqb·zero-suc (length xs))
+
+    pub spelled-digit : (d : ℕ) → digitIn 10 x ≡ some d → spelled limit a (x ∷ xs) ≡ spelled limit (a * 10 + d) xs
+    unfolding run readOn
+    spelled-digit d e = rw (e, eqb·suc-suc (length (front xs)) (length xs))
+
+-- ---- how many digits a number has, behind whose digits others were read
+next-count : (a d : ℕ) → d < 10 → 0 < a → length (digits 10 (a * 10 + d)) ≡ length (digits 10 a) + 1
+next-count a d h k =
+    let q : (a * 10 + d) / 10 ≡ a = omega arith in
+    count-ge 10 (a * 10 + d) (omega arith) (omega arith) ∙ ap (λ (z : ℕ). length (digits 10 z) + 1) q
+
+on-count : (a : ℕ) (ds : List ℕ) → AreDigits 10 ds → 0 < a → length (digits 10 (readOn 10 a ds)) ≡ length (digits 10 a) + length ds
+unfolding readOn
+on-count a [] k h = omega arith
+on-count a (d ∷ ds) k h = omega (arith, on-count (a * 10 + d) ds (k .1) (omega arith), next-count a d (k .0) h)
+
+on-most : (a : ℕ) (ds : List ℕ) → AreDigits 10 ds → length (digits 10 (readOn 10 a ds)) ≤ length (digits 10 a) + length ds
+unfolding readOn
+on-most a [] k = omega arith
+on-most zero (d ∷ ds) k = omega (arith, on-most (0 * 10 + d) ds (k .1), count-lt 10 (0 * 10 + d) (omega (arith, k .0)))
+on-most (suc a) (d ∷ ds) k = omega (arith, on-count (suc a) (d ∷ ds) k (omega arith))
+
+-- ---- as many as were read, but fewer where a 0 stands in front of others
+first-count : (ds : List ℕ) → AreDigits 10 ds → 0 < getD ds 0 0 → count ds ≡ length ds
+unfolding readOn
+first-count [] k h = absurd (omega arith)
+first-count (d ∷ ds) k h = omega (arith, on-count (0 * 10 + d) ds (k .1) (omega arith), count-lt 10 (0 * 10 + d) (omega (arith, k .0)))
+
+one-count : (ds : List ℕ) → AreDigits 10 ds → length ds ≡ 1 → count ds ≡ length ds
+unfolding readOn
+one-count [] k h = absurd (omega arith)
+one-count (d ∷ []) k h = count-lt 10 (0 * 10 + d) (omega (arith, k .0))
+one-count (d ∷ e ∷ ds) k h = absurd (omega arith)
+
+zero-count : (ds : List ℕ) → AreDigits 10 ds → 1 < length ds → getD ds 0 0 ≡ 0 → count ds < length ds
+unfolding readOn
+zero-count [] k h z = absurd (omega arith)
+zero-count (d ∷ []) k h z = absurd (omega arith)
+zero-count (d ∷ e ∷ ds) k h z =
+    let a = (0 * 10 + d) * 10 + e in
+    omega (arith, on-most a ds (k .1 .1), count-lt 10 a (omega (arith, k .1 .0)))
+
+-- ---- a text by its first byte
+first-byte : (l : List ℕ) → length (front l) ≡ length l → 0 < length l → getD l 0 0 ≡ 48 + getD (front l) 0 0
+unfolding run
+first-byte [] h k = absurd (omega arith)
+first-byte (x ∷ xs) h k = go (digitIn 10 x) refl h
+  where
+    go : (v : Option ℕ) → digitIn 10 x ≡ v → length (more x xs v (run 10 xs) .got) ≡ suc (length xs) → x ≡ 48 + getD (more x xs v (run 10 xs) .got) 0 0
+    go none e h = absurd (omega arith)
+    go (some d) e h = let k = in-digit 10 x d e in sym (k .0) ∙ byte-figure d (k .1)
+
+module _ (limit : ℕ) (l : List ℕ) where
+  by-count : (length (front l) ≡ length l → count (front l) ≡ length l) → numberIn limit l ≡ spelled limit 0 l
+  unfolding numberIn
+  by-count h = go (eqb (length (front l)) (length l)) refl
+    where
+      go : (b : Bool) → eqb (length (front l)) (length l) ≡ b → numberIn limit l ≡ spelled limit 0 l
+      go true q = rw (eq-eqb (count (front l)) (length l) (h (eqb-true (length (front l)) (length l) q)))
+      go false q = rw q
+
+  no-count : (length (front l) ≡ length l → count (front l) ≡ length l → ⊥) → numberIn limit l ≡ none
+  unfolding numberIn
+  no-count h = go (eqb (length (front l)) (length l)) refl
+    where
+      go : (b : Bool) → eqb (length (front l)) (length l) ≡ b → numberIn limit l ≡ none
+      go true q = rw (ne-eqb (count (front l)) (length l) (h (eqb-true (length (front l)) (length l) q)), and-false)
+      go false q = rw q
+
+  pub in-none : length l ≡ 0 → numberIn limit l ≡ none
+  in-none h = no-count (λ e c. omega (arith, c, count-pos 10 (omega arith) (digitsValue 10 (front l))))
+
+  pub in-one : length l ≡ 1 → numberIn limit l ≡ spelled limit 0 l
+  in-one h = by-count (λ e. one-count (front l) (is-run 10 l .digits) (e ∙ h) ∙ e)
+
+  pub in-first : 0 < length l → (getD l 0 0 ≡ 48 → ⊥) → numberIn limit l ≡ spelled limit 0 l
+  in-first h k = by-count (λ e. first-count (front l) (is-run 10 l .digits) (omega (arith, first-byte l e h)) ∙ e)
+
+  pub in-zero : 1 < length l → getD l 0 0 ≡ 48 → numberIn limit l ≡ none
+  in-zero h k = no-count (λ e c. omega (arith, e, c, zero-count (front l) (is-run 10 l .digits) (omega (arith, e)) (omega (arith, first-byte l e (omega arith)))))

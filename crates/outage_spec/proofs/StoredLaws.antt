@@ -5,12 +5,10 @@ use mathlib.Core.Bool.{Bool, true, false, cond}
 use mathlib.Core.List.{List, [], _∷_, _++_}
 use mathlib.Core.Option.{Option, none, some}
 use native.Mathlib.Omega.{arith}
-use borrow.Author.Tests.{leb-true}
-use lib.Dec.{leb, ltb, eqb}
+use lib.Dec.{ltb}
 use lib.ListN.{length, drop, length-append}
 use lib.Ieee.{binary64, toBits}
 use Rattle.lexical_util.specs.Answer.{Answer, done, refused, andThen, checked}
-use Rattle.lexical_util.specs.Digit.{digitIn}
 use Rattle.lexical_util.proofs.AnswerLaws.{refused-done, done-same}
 use Rattle.lexical_format.specs.declared.format.NumberFormat.{NumberFormat}
 use Rattle.lexical_format.specs.declared.format.Pair.{Pair}
@@ -20,38 +18,12 @@ use Rattle.outage_spec.specs.declared.window.Window.{Window}
 use Rattle.outage_spec.specs.Words.{toBytes}
 use Rattle.outage_spec.specs.Window.{Column, from}
 use Rattle.outage_spec.specs.Table.{tableSize, columnBytes, tableOf, mostWindows}
-use Rattle.outage_spec.specs.Sheet.{before, lacks, onDigit, numberOn, numberIn, orWrong, sheetCount, rowIn, linesFrom, sheetRows}
+use Rattle.outage_spec.specs.Sheet.{before, lacks, numberIn, orWrong, sheetCount, rowIn, linesFrom, sheetRows}
 use Rattle.outage_spec.specs.Calls.{countedTable, sheetTable}
 use Rattle.outage_spec.proofs.WordLaws.{AreBytes, bytes-length}
+use Rattle.outage_spec.proofs.NumberLaws.{number-le}
 
--- ---- a number is at most its limit
-none-some : (n : ℕ) → none ≡ some n → ⊥
-none-some n e = let z : _≡_ {A = ℕ} 0 1 = cc in omega arith
-
-on-le : (limit : ℕ) (l : List ℕ) (a n : ℕ) → a ≤ limit → numberOn limit a l ≡ some n → n ≤ limit
-unfolding numberOn
-on-le limit [] a n h e = let z : a ≡ n = cc in omega arith
-on-le limit (x ∷ xs) a n h e = go (digitIn 10 x) (λ b. on-le limit xs b n) e
-  where
-    step : (d : ℕ) (b : Bool) → leb (a * 10 + d) limit ≡ b → ((c : ℕ) → c ≤ limit → numberOn limit c xs ≡ some n → n ≤ limit)
-        → cond b (numberOn limit (a * 10 + d) xs) none ≡ some n → n ≤ limit
-    step d true q more e = more (a * 10 + d) (leb-true (a * 10 + d) limit q) e
-    step d false q more e = absurd (none-some n e)
-
-    go : (v : Option ℕ) → ((c : ℕ) → c ≤ limit → numberOn limit c xs ≡ some n → n ≤ limit) → onDigit limit a v (λ b. numberOn limit b xs) ≡ some n → n ≤ limit
-    go none more e = absurd (none-some n e)
-    go (some d) more e = step d (leb (a * 10 + d) limit) refl more e
-
-pub number-le : (limit : ℕ) (l : List ℕ) (n : ℕ) → numberIn limit l ≡ some n → n ≤ limit
-unfolding numberIn
-number-le limit [] n e = absurd (none-some n e)
-number-le limit (x ∷ []) n e = on-le limit (x ∷ []) 0 n (omega arith) e
-number-le limit (x ∷ y ∷ ys) n e = go (eqb x 48) e
-  where
-    go : (b : Bool) → cond b none (numberOn limit 0 (x ∷ y ∷ ys)) ≡ some n → n ≤ limit
-    go true e = absurd (none-some n e)
-    go false e = on-le limit (x ∷ y ∷ ys) 0 n (omega arith) e
-
+-- ---- a count is at most 400
 pub count-few : (s : List ℕ) (n : ℕ) → sheetCount s ≡ done n → n ≤ mostWindows
 unfolding sheetCount
 count-few s n e = go (lacks 10 s) e

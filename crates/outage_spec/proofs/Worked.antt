@@ -16,7 +16,7 @@ use Rattle.lexical_read_float_spec.specs.Round.{tooLarge}
 use Rattle.lexical_read_float_spec.specs.Read.{numerator, denominator, floatOf, exponentTooLarge, exponentPlace, valueOf, readText, readFloat}
 use Rattle.outage_spec.specs.Words.{ofBytes, toBytes}
 use Rattle.outage_spec.specs.Table.{columnBytes, tableOf, tableCount, rowsFrom, tableWindows}
-use Rattle.outage_spec.specs.Sheet.{before, numberOn, numberIn, rowsText, sheetOf, sheetCount, fieldsWindow, lineWindow, rowIn, linesFrom}
+use Rattle.outage_spec.specs.Sheet.{before, numberIn, rowsText, sheetOf, sheetCount, fieldsWindow, lineWindow, rowIn, linesFrom}
 use Rattle.outage_spec.specs.Calls.{sheetFormat, tableSheet, countedTable, sheetTable}
 use Rattle.outage_spec.specs.Examples.{tables, sheets}
 
@@ -25,5 +25,5 @@ unfolding failing tables tableSheet sheetFormat tableWindows tableCount rowsFrom
 tables-hold = refl
 
 pub sheets-hold : failing sheets ≡ []
-unfolding failing sheets sheetTable countedTable sheetCount numberIn numberOn before linesFrom rowIn lineWindow fieldsWindow tableOf columnBytes toBytes toBits lt readFloat readText valueOf exponentTooLarge exponentPlace floatOf numerator denominator tooLarge shapeOf parse afterWhole parseTail signedExponent run readingFormat readOn badBytes badByte pairOf findPair pairs isRadix isDigit digitIn digitValue round units odd size span climb
+unfolding failing sheets sheetTable countedTable sheetCount numberIn digits digitsUpTo before linesFrom rowIn lineWindow fieldsWindow tableOf columnBytes toBytes toBits lt readFloat readText valueOf exponentTooLarge exponentPlace floatOf numerator denominator tooLarge shapeOf parse afterWhole parseTail signedExponent run readingFormat readOn badBytes badByte pairOf findPair pairs isRadix isDigit digitIn digitValue round units odd size span climb
 sheets-hold = refl

@@ -101,6 +101,7 @@ sheets =
     ∷ wrong "00" (lines ("00" ∷ [])) 15 0
     ∷ wrong "01" (lines ("01" ∷ "1 1" ∷ [])) 15 0
     ∷ wrong "+1" (lines ("+1" ∷ "1 1" ∷ [])) 15 0
+    ∷ wrong "+" (lines ("+" ∷ [])) 15 0
     ∷ wrong "401" (lines ("401" ∷ [])) 15 0
     ∷ wrong "thirty digits" (lines ("100000000000000000000000000000" ∷ [])) 15 0
     ∷ stores "8 behind the count line, before a row" (lines ("1" ∷ "x" ∷ [])) 23 (refused 8 0)

@@ -1,17 +1,18 @@
 -- The sheet: document 01, "n in radix 10 without leading zeros, LF, then start, space, end, LF for each window in table order". Definitions only.
 use Prim.Native.Nat.{ℕ, zero, suc, _+_, _*_}
-use mathlib.Core.Bool.{Bool, not, cond}
+use mathlib.Core.Bool.{Bool, not, cond, _&&_}
 use mathlib.Core.List.{List, [], _∷_, _++_}
 use mathlib.Core.Option.{Option, none, some}
 use lib.Dec.{leb, eqb}
 use lib.ListN.{length, drop}
 use lib.Ieee.{binary64}
 use Rattle.lexical_util.specs.Answer.{Answer, done, refused, andThen, checked}
-use Rattle.lexical_util.specs.Digit.{digitIn}
-use Rattle.lexical_write_integer_spec.specs.Digits.{numeral}
+use Rattle.lexical_util.specs.Digit.{digitsValue}
+use Rattle.lexical_write_integer_spec.specs.Digits.{digits, numeral}
 use Rattle.lexical_format.specs.declared.format.NumberFormat.{NumberFormat}
 use Rattle.lexical_format.specs.declared.options.Options.{Options}
 use Rattle.lexical_write_float_spec.specs.Write.{writeText}
+use Rattle.lexical_read_float_spec.specs.Parse.{run}
 use Rattle.lexical_read_float_spec.specs.Read.{readFloat}
 use Rattle.outage_spec.specs.declared.window.Window.{Window}
 use Rattle.outage_spec.specs.Window.{Column, columns, judged, from}
@@ -27,21 +28,12 @@ before b (x ∷ xs) = let more = before b xs in cond (eqb x b) [] (x ∷ more)
 abbrev pub lacks : ℕ → List ℕ → Bool
 lacks b l = eqb (length (before b l)) (length l)
 
--- one digit of radix 10 more, behind those that spell a
-abbrev pub onDigit : ℕ → ℕ → Option ℕ → (ℕ → Option ℕ) → Option ℕ
-onDigit limit a none more = none
-onDigit limit a (some d) more = cond (leb (a * 10 + d) limit) (more (a * 10 + d)) none
-
--- the digits behind those that spell a
-unfoldable pub numberOn : ℕ → ℕ → List ℕ → Option ℕ
-numberOn limit a [] = some a
-numberOn limit a (x ∷ xs) = onDigit limit a (digitIn 10 x) (λ b. numberOn limit b xs)
-
--- a number in radix 10, at most a limit: one digit or more, and no "0" in front of others
+-- the number in radix 10 without leading zeros that a text is, at most a limit: digits only, and as many as the number has
 unfoldable pub numberIn : ℕ → List ℕ → Option ℕ
-numberIn limit [] = none
-numberIn limit (x ∷ []) = numberOn limit 0 (x ∷ [])
-numberIn limit (x ∷ y ∷ ys) = cond (eqb x 48) none (numberOn limit 0 (x ∷ y ∷ ys))
+numberIn limit l =
+    let ds = run 10 l .got in
+    let n = digitsValue 10 ds in
+    cond (eqb (length ds) (length l) && (eqb (length (digits 10 n)) (length l) && leb n limit)) (some n) none
 
 -- ---- the sheet of windows
 module _ (F : NumberFormat) (o : Options) where

@@ -9,7 +9,7 @@ use lib.Seq.{length-take-le}
 use Rattle.lexical_util.specs.Answer.{done}
 use Rattle.outage_spec.specs.Sheet.{numberIn, sheetCount}
 use Rattle.outage.specs.Answer.{ofNumber}
-use Rattle.outage_spec.proofs.StoredLaws.{number-le}
+use Rattle.outage_spec.proofs.NumberLaws.{number-le}
 use Rattle.outage_sheet.proofs.SheetLaws.{count-open, count-read, no-count, no-room, from-rows, refused-so, answered-so}
 use borrow.Author.Needs.{needs}
 use Rattle.outage_sheet.proofs.to_table.read_counted.Statement.{statement}
