@@ -23,7 +23,7 @@ use Rattle.outage_spec.specs.Calls.{countedTable, sheetTable}
 use Rattle.outage_spec.proofs.WordLaws.{AreBytes, bytes-length}
 use Rattle.outage_spec.proofs.NumberLaws.{number-le}
 
--- ---- a count is at most 400
+-- ---- a count is at most `mostWindows`
 pub count-few : (s : List ℕ) (n : ℕ) → sheetCount s ≡ done n → n ≤ mostWindows
 unfolding sheetCount
 count-few s n e = go (lacks 10 s) e
