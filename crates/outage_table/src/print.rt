@@ -79,6 +79,6 @@ pub(crate) fn put_count(sheet: &mut [u8], count: usize) -> usize
     requires { ⌜ length (numeral 10 count) + 1 ≤ length (now sheet) ⌝ }
     ensures { λ r. ⌜ Puts (now (sheet .entry)) 0 (numeral 10 count ++ (10 ∷ [])) r (now (sheet .exit)) ⌝ }
 {
-    let newline = put_number(sheet, 0, count as u64, 10);
-    put_byte(sheet, newline, b'\n')
+    let digits = put_number(sheet, 0, count as u64, 10);
+    put_byte(sheet, digits, b'\n')
 }
