@@ -8,7 +8,7 @@ ghost use Rattle.lexical_util.specs.Answer.{done};
 ghost use Rattle.lexical_buffer.specs.Put.{nextPlace, heldFrom, put};
 
 // Whether so many bytes from a place on lie within a length.
-pub(crate) fn has_room(length: usize, at: usize, count: usize) -> bool
+pub(crate) fn lies_within(length: usize, at: usize, count: usize) -> bool
     ensures { λ r. ⌜ r ≡ leb (at + count) length ⌝ }
 {
     if length < at {
@@ -43,7 +43,7 @@ pub fn put_bytes(buffer: &mut [u8], at: usize, bytes: &[u8]) -> usize
     ensures { λ r. ⌜ r ≡ nextPlace at (done (now (bytes .entry))) (now (buffer .entry)) ⌝ }
     ensures { λ _. ⌜ now (buffer .exit) ≡ heldFrom at (done (now (bytes .entry))) (now (buffer .entry)) ⌝ }
 {
-    if has_room(buffer.len(), at, bytes.len()) {
+    if lies_within(buffer.len(), at, bytes.len()) {
         copy(buffer, at, bytes);
         return at + bytes.len();
     }

@@ -3,7 +3,7 @@ ghost use mathlib.Core.Path.{_≡_};
 ghost use Prim.Native.Nat.{_≤_, _<_};
 ghost use Rattle.lexical_write_integer_spec.specs.Write.{digitsText};
 ghost use Rattle.lexical_buffer.specs.Put.{nextPlace, heldFrom};
-use crate::bytes::has_room;
+use crate::bytes::lies_within;
 use crate::bytes::put_byte;
 use lexical_util::Written;
 use lexical_util::is_radix;
@@ -32,7 +32,7 @@ fn put_two_digits(buffer: &mut [u8], at: usize, value: u64) -> usize
 {
     let first = digit_byte(value / 10);
     let last = digit_byte(value % 10);
-    if has_room(buffer.len(), at, 2) {
+    if lies_within(buffer.len(), at, 2) {
         buffer[at] = first;
         buffer[at + 1] = last;
         return at + 2;

@@ -1,7 +1,7 @@
 // A format from its record. Bytes that are missing count as 0.
 ghost use mathlib.Core.Path.{_≡_};
 ghost use Prim.Native.Nat.{_<_};
-ghost use Rattle.lexical_rewrite_spec.specs.Record.{byteAt, flagAt, modeAt, wordAt, twosComplement, numberFormatOfRecord, optionsOfRecord, formatOfRecord, recordSize};
+ghost use Rattle.lexical_rewrite_spec.specs.Record.{byteAt, flagAt, modeAt, twoBytesAt, twosComplement, numberFormatOfRecord, optionsOfRecord, formatOfRecord, recordSize};
 use lexical_format::NumberFormat;
 use lexical_format::Options;
 use lexical_format::RoundMode;
@@ -32,9 +32,9 @@ fn mode_at(bytes: &[u8], at: usize) -> RoundMode
     }
 }
 
-fn word_at(bytes: &[u8], at: usize) -> u32
+fn two_bytes_at(bytes: &[u8], at: usize) -> u32
     requires { ⌜ at < recordSize ⌝ }
-    ensures { λ r. ⌜ r ≡ wordAt (now (bytes .entry)) at ⌝ }
+    ensures { λ r. ⌜ r ≡ twoBytesAt (now (bytes .entry)) at ⌝ }
     ensures small { λ r. ⌜ r < 65536 ⌝ }
 {
     let low = byte_at(bytes, at);
@@ -44,9 +44,9 @@ fn word_at(bytes: &[u8], at: usize) -> u32
 
 fn signed_at(bytes: &[u8], at: usize) -> i32
     requires { ⌜ at < recordSize ⌝ }
-    ensures { λ r. ⌜ r ≡ twosComplement (wordAt (now (bytes .entry)) at) ⌝ }
+    ensures { λ r. ⌜ r ≡ twosComplement (twoBytesAt (now (bytes .entry)) at) ⌝ }
 {
-    let word = word_at(bytes, at);
+    let word = two_bytes_at(bytes, at);
     if word < 32768 {
         return word as i32;
     }
@@ -72,8 +72,8 @@ fn options_of_record(bytes: &[u8]) -> Options
     ensures { λ r. ⌜ r ≡ optionsOfRecord (now (bytes .entry)) ⌝ }
 {
     Options {
-        max_significant_digits: word_at(bytes, 9),
-        min_significant_digits: word_at(bytes, 11),
+        max_significant_digits: two_bytes_at(bytes, 9),
+        min_significant_digits: two_bytes_at(bytes, 11),
         positive_exponent_break: signed_at(bytes, 13),
         negative_exponent_break: signed_at(bytes, 15),
         round_mode: mode_at(bytes, 8),

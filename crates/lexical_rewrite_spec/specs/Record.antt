@@ -28,8 +28,8 @@ abbrev pub modeAt : List ℕ → ℕ → RoundMode
 modeAt bytes k = cond (flagAt bytes k) Truncate Round
 
 -- two bytes, little endian
-abbrev pub wordAt : List ℕ → ℕ → ℕ
-wordAt bytes k = byteAt bytes k + 256 * byteAt bytes (k + 1)
+abbrev pub twoBytesAt : List ℕ → ℕ → ℕ
+twoBytesAt bytes k = byteAt bytes k + 256 * byteAt bytes (k + 1)
 
 -- and as a signed number, two's complement
 abbrev pub twosComplement : ℕ → ℤ
@@ -49,10 +49,10 @@ numberFormatOfRecord bytes = record {
 
 unfoldable pub optionsOfRecord : List ℕ → Options
 optionsOfRecord bytes = record {
-  «max_significant_digits» = wordAt bytes 9;
-  «min_significant_digits» = wordAt bytes 11;
-  «positive_exponent_break» = twosComplement (wordAt bytes 13);
-  «negative_exponent_break» = twosComplement (wordAt bytes 15);
+  «max_significant_digits» = twoBytesAt bytes 9;
+  «min_significant_digits» = twoBytesAt bytes 11;
+  «positive_exponent_break» = twosComplement (twoBytesAt bytes 13);
+  «negative_exponent_break» = twosComplement (twoBytesAt bytes 15);
   «round_mode» = modeAt bytes 8;
   «trim_floats» = flagAt bytes 7;
   exponent = byteAt bytes 18;

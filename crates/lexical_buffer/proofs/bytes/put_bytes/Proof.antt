@@ -10,7 +10,7 @@ use Rattle.lexical_buffer.proofs.bytes.put_bytes.Statement.{statement}
 use Rattle.lexical_buffer.proofs.bytes.put_bytes.Tie as tie
 
 room : (c : tie.Then1) → let a = c .before .before .before .before .args in a .at + length (a .bytes .now) ≤ length (a .buffer .now)
-room c = leb-true _ _ (sym (c .before .has-room .ensures) ∙ c .if1 .taken)
+room c = leb-true _ _ (sym (c .before .lies-within .ensures) ∙ c .if1 .taken)
 
 returns : tie.Need-returns
 returns c =
@@ -22,7 +22,7 @@ returns c =
 returns-2 : tie.Need-returns-2
 returns-2 c =
     let a = c .before .before .before .before .args in
-    let s = short-put _ (a .bytes .now) (a .buffer .now) (a .at) refl (leb-false _ _ (sym (c .before .has-room .ensures) ∙ c .if1 .left)) in
+    let s = short-put _ (a .bytes .now) (a .buffer .now) (a .at) refl (leb-false _ _ (sym (c .before .lies-within .ensures) ∙ c .if1 .left)) in
     (sym (s .0), sym (s .1))
 
 pub put-bytes-spec : {M : Type 1} → statement M

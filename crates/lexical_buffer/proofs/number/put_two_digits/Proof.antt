@@ -14,16 +14,16 @@ use Rattle.lexical_buffer.proofs.number.put_two_digits.Statement.{state
 use Rattle.lexical_buffer.proofs.number.put_two_digits.Tie as tie
 
 -- the two bytes are the text that is asked for
-abbrev text : tie.After-has-room → List ℕ
+abbrev text : tie.After-lies-within → List ℕ
 text c = (c .before .before .digit-byte .result ∷ []) ++ (c .before .digit-byte2 .result ∷ [])
 
-asked : (c : tie.After-has-room) → digitsText (c .before .before .before .before .args .value) 10 ≡ done (text c)
+asked : (c : tie.After-lies-within) → digitsText (c .before .before .before .before .args .value) 10 ≡ done (text c)
 asked c =
     let s = c .before .before .before .before in
     decimal-asked (s .args .value) ∙ sym (ap (λ (l : List ℕ). done l) (two-numeral (s .args .value) _ _ (s .pre .0) (s .pre .1) (c .before .before .digit-byte .ensures) (c .before .digit-byte2 .ensures)))
 
 room : (c : tie.Then1) → let a = c .before .before .before .before .before .args in a .at + 2 ≤ length (a .buffer .now)
-room c = leb-true _ _ (sym (c .before .has-room .ensures) ∙ c .if1 .taken)
+room c = leb-true _ _ (sym (c .before .lies-within .ensures) ∙ c .if1 .taken)
 
 slice-write-buffer : tie.Need-slice-write-buffer
 slice-write-buffer c = omega (arith, room c)
@@ -52,7 +52,7 @@ returns-2 : tie.Need-returns-2
 returns-2 c =
     let h = c .before in
     let a = h .before .before .before .before .args in
-    let s = short-put _ (text h) (a .buffer .now) (a .at) (asked h) (leb-false _ _ (sym (h .has-room .ensures) ∙ c .if1 .left)) in
+    let s = short-put _ (text h) (a .buffer .now) (a .at) (asked h) (leb-false _ _ (sym (h .lies-within .ensures) ∙ c .if1 .left)) in
     (sym (s .0), sym (s .1))
 
 pub put-two-digits-spec : {M : Type 1} → statement M

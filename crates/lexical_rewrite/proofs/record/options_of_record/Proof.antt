@@ -6,11 +6,11 @@ use Rattle.lexical_rewrite_spec.specs.Record.{optionsOfRecord}
 use Rattle.lexical_rewrite.proofs.record.options_of_record.Statement.{statement}
 use Rattle.lexical_rewrite.proofs.record.options_of_record.Tie as tie
 
-word-at-requires : tie.Need-word-at-requires
-word-at-requires c κs = search needs
+two-bytes-at-requires : tie.Need-two-bytes-at-requires
+two-bytes-at-requires c κs = search needs
 
-word-at-requires-2 : tie.Need-word-at-requires-2
-word-at-requires-2 c κs = search needs
+two-bytes-at-requires-2 : tie.Need-two-bytes-at-requires-2
+two-bytes-at-requires-2 c κs = search needs
 
 signed-at-requires : tie.Need-signed-at-requires
 signed-at-requires c κs = search needs
@@ -39,8 +39,8 @@ returns c =
     let high = low .before in
     let least = high .before in
     rw (
-      least .before .word-at .ensures .0,
-      least .word-at2 .ensures .0,
+      least .before .two-bytes-at .ensures .0,
+      least .two-bytes-at2 .ensures .0,
       read-back _ (high .signed-at .ok) ∙ high .signed-at .ensures,
       read-back _ (low .signed-at2 .ok) ∙ low .signed-at2 .ensures,
       m .mode-at .ensures,
@@ -53,8 +53,8 @@ pub options-of-record-spec : {M : Type 1} → statement M
 options-of-record-spec =
     tie.close
     (tie.spec
-    word-at-requires
-    word-at-requires-2
+    two-bytes-at-requires
+    two-bytes-at-requires-2
     signed-at-requires
     signed-at-requires-2
     mode-at-requires

@@ -6,14 +6,14 @@ use Rattle.lexical_rewrite.proofs.SignedLaws.{signed-low, signed-high, 
 use Rattle.lexical_rewrite.proofs.record.signed_at.Statement.{statement}
 use Rattle.lexical_rewrite.proofs.record.signed_at.Tie as tie
 
-word-at-requires : tie.Need-word-at-requires
-word-at-requires c κs = search needs
+two-bytes-at-requires : tie.Need-two-bytes-at-requires
+two-bytes-at-requires c κs = search needs
 
 cast-result : tie.Need-cast-result
 cast-result c = search needs
 
 returns : tie.Need-returns
-returns c = signed-low _ (c .if1 .taken) ∙ ap twosComplement (c .before .word-at .ensures .0)
+returns c = signed-low _ (c .if1 .taken) ∙ ap twosComplement (c .before .two-bytes-at .ensures .0)
 
 sub-below : tie.Need-sub-below
 sub-below c = search needs
@@ -22,12 +22,12 @@ cast-result-2 : tie.Need-cast-result-2
 cast-result-2 c = search needs
 
 sub-result : tie.Need-sub-result
-sub-result c = high-fits _ (c .if1 .left) (c .before .word-at .ensures .1)
+sub-result c = high-fits _ (c .if1 .left) (c .before .two-bytes-at .ensures .1)
 
 returns-2 : tie.Need-returns-2
-returns-2 c = signed-high _ (c .if1 .left) (c .before .word-at .ensures .1) ∙ ap twosComplement (c .before .word-at .ensures .0)
+returns-2 c = signed-high _ (c .if1 .left) (c .before .two-bytes-at .ensures .1) ∙ ap twosComplement (c .before .two-bytes-at .ensures .0)
 
 pub signed-at-spec : {M : Type 1} → statement M
 signed-at-spec =
     tie.close
-    (tie.spec word-at-requires cast-result returns sub-below cast-result-2 sub-result returns-2)
+    (tie.spec two-bytes-at-requires cast-result returns sub-below cast-result-2 sub-result returns-2)
