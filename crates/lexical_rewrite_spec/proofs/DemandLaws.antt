@@ -1,15 +1,15 @@
 -- Demand 3: equal floats are rewritten to equal bytes and only they, and a chain of any length ends in the last format's text of the first text's float. Assumes nothing.
 use Prim.Native.Nat.{ℕ, _+_}
-use mathlib.Core.Path.{_≡_, sym, ap, _∙_}
-use mathlib.Core.List.{List, [], _∷_}
-use lib.ListN.{length}
+use mathlib.Core.Path.{_≡_, refl, sym, ap, _∙_, fun-ext}
+use mathlib.Core.List.{List, [], _∷_, map}
+use lib.ListN.{length, take}
 use lib.Ieee.{Float, Format}
 use Rattle.lexical_util.proofs.AnswerLaws.{done-same}
 use Rattle.lexical_rewrite_spec.specs.declared.text_format.TextFormat.{TextFormat}
 use Rattle.lexical_rewrite_spec.specs.Rewrite.{Rewriting, readIn, textIn, rewriteAnswer, rewriteBytes}
-use Rattle.lexical_rewrite_spec.specs.Chain.{Chained, atStation, chainFrom, chainOf, chain}
-use Rattle.lexical_rewrite_spec.specs.Demand.{IsFloatOf, Admits, Roomy, SameAsOthers, SameFloatSameBytes, Arrives, ChainArrives, NeverLost}
-use Rattle.lexical_rewrite_spec.proofs.StationLaws.{Has, has-text, station-answer, station-bytes, station-hands}
+use Rattle.lexical_rewrite_spec.specs.Chain.{Chained, atStation, chainFrom, chainOf, Station, lastStation, onward, chain}
+use Rattle.lexical_rewrite_spec.specs.Demand.{IsFloatOf, Admits, Roomy, SameAsOthers, SameFloatSameBytes, Arrives, ChainArrives, ChainIsCalled, NeverLost}
+use Rattle.lexical_rewrite_spec.proofs.StationLaws.{Has, has-text, station-answer, station-bytes, station-hands, station-goes-on}
 
 -- ---- same float, same bytes
 -- a float has one text, and a text one float
@@ -60,6 +60,14 @@ chain-arrives f i F t S (S' ∷ Ss) x read ready all =
     let h = has-text f F t (S .format) x read (ready .0) in
     let step : chain f i F t S (S' ∷ Ss) ≡ chain f (i + 1) (S .format) (h .text) S' Ss = rw (station-answer f F t (S .format) (S .buffer) x read h (ready .1)) (ap (λ (l : List ℕ). chain f (i + 1) (S .format) l S' Ss) (station-hands f F t (S .format) (S .buffer) x read h (ready .1))) in
     rw step (chain-arrives f (i + 1) (S .format) (h .text) S' Ss x (h .back) (all .0) (all .1))
+
+pub chain-is-called : ChainIsCalled
+unfolding chain chainFrom
+chain-is-called f i F t S [] all = refl
+chain-is-called f i F t S (S' ∷ Ss) all =
+    ap (onward i (lastStation S' Ss .buffer) (rewriteAnswer (S .format) (S .buffer) (readIn f F t)))
+    (fun-ext (λ n. chain-is-called f (i + 1) (S .format) (take n (rewriteBytes (S .format) (S .buffer) (readIn f F t))) S' Ss (all .1)))
+    ∙ sym (station-goes-on f i F t (S .format) (lastStation S' Ss .buffer) (S .buffer) (all .0) (λ text. chainFrom f (i + 1) (S .format) text (S' .format) (map (λ (S : Station). S .format) Ss) (lastStation S' Ss .buffer)))
 
 -- ---- a call that is lent the last station's buffer, from any station on
 from-arrives : (f : Format) (i : ℕ) (F : TextFormat) (t : List ℕ) (G : TextFormat) (Gs : List TextFormat) (out : List ℕ) → NeverLost f F t G Gs out (chainFrom f i F t G Gs out .answer) (chainFrom f i F t G Gs out .bytes)

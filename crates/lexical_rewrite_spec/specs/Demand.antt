@@ -2,7 +2,7 @@
 -- and all buffers of at least `longestText` bytes, whatever they held. Statements only; `DemandLaws` proves them, and `RecordLaws` those of records.
 use Prim.Native.Nat.{ℕ, _≤_, _<_}
 use mathlib.Core.Path.{_≡_}
-use mathlib.Core.List.{List, _++_}
+use mathlib.Core.List.{List, [], _∷_, _++_, map}
 use lib.ListN.{length, take, drop}
 use lib.Ieee.{Float, Format}
 use Rattle.lexical_util.specs.Answer.{done}
@@ -12,7 +12,7 @@ use Rattle.lexical_format.specs.Format.{writingFormat}
 use Rattle.lexical_rewrite_spec.specs.declared.text_format.TextFormat.{TextFormat}
 use Rattle.lexical_rewrite_spec.specs.Claims.{Denotes}
 use Rattle.lexical_rewrite_spec.specs.Rewrite.{Rewriting, rewritten, readIn, textIn, rewriteAnswer, rewriteBytes}
-use Rattle.lexical_rewrite_spec.specs.Chain.{Station, Chained, arrived, lastStation, chain, lastFormat}
+use Rattle.lexical_rewrite_spec.specs.Chain.{Station, Chained, arrived, chainFrom, lastStation, chain, lastFormat}
 use Rattle.lexical_rewrite_spec.specs.Record.{formatOfRecord, formatsOf, recordOf, joined, FitsRecord}
 use Rattle.lexical_write_float_spec.specs.Write.{longestText}
 
@@ -71,7 +71,18 @@ ChainArrives =
     → IsFloatOf f F t x → Ready S → All Ready Ss
     → Arrives x (lastStation S Ss .format) (lastStation S Ss .buffer) (chain f i F t S Ss .answer) (chain f i F t S Ss .bytes)
 
--- the same of a call that is given the formats G and Gs and lent the last station's buffer
+-- each station but the last has a buffer long enough for every text
+abbrev pub RoomyBefore : Station → List Station → Type 0
+RoomyBefore S [] = Unit {0}
+RoomyBefore S (S' ∷ Ss) = Roomy (S .buffer) × RoomyBefore S' Ss
+
+-- such stations answer and leave what a call does that is given their formats and lent the last one's buffer, refusals and digit limits included
+abbrev pub ChainIsCalled : Type 0
+ChainIsCalled =
+    (f : Format) (i : ℕ) (F : TextFormat) (t : List ℕ) (S : Station) (Ss : List Station) → RoomyBefore S Ss
+    → chain f i F t S Ss ≡ chainFrom f i F t (S .format) (map (λ (S : Station). S .format) Ss) (lastStation S Ss .buffer)
+
+-- what `ChainArrives` says, of a call that is given the formats G and Gs and lent the last station's buffer
 abbrev pub NeverLost : Format → TextFormat → List ℕ → TextFormat → List TextFormat → List ℕ → Chained → List ℕ → Type 0
 NeverLost f F t G Gs out answer bytes =
     (x : Float) → IsFloatOf f F t x → Admits G → All Admits Gs → Roomy out → Arrives x (lastFormat G Gs) out answer bytes
