@@ -10,8 +10,8 @@ use lib.Dec.{leb}
 use lib.ListN.{length, drop, drop-of-length-le}
 use lib.Seq.{drop-cons}
 use Rattle.lexical_util.specs.Digit.{digitIn}
-use Rattle.lexical_reader.specs.Place.{digitAt, placeAfter}
-use Rattle.lexical_reader.proofs.PlaceLaws.{digit-here, place-here}
+use Rattle.lexical_digit_reader.specs.Place.{digitAt, placeAfter}
+use Rattle.lexical_digit_reader.proofs.PlaceLaws.{digit-here, place-here}
 use Rattle.outage_spec.proofs.NumberLaws.{spelled, spelled-end, spelled-above, spelled-other, spelled-digit}
 use Rattle.outage.specs.Code.{onDigit, numberOn}
 

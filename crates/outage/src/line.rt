@@ -5,7 +5,7 @@ ghost use lib.ListN.{length};
 ghost use Rattle.outage_spec.specs.Sheet.{before, numberIn};
 ghost use Rattle.outage.specs.Answer.{ofNumber};
 ghost use Rattle.outage.specs.Code.{numberOn};
-use lexical_reader::next_digit;
+use lexical_digit_reader::next_digit;
 use lexical_util::DigitValue;
 
 pub enum Number {

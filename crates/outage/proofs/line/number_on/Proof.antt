@@ -5,7 +5,7 @@ use native.Mathlib.Omega.{arith}
 use borrow.Author.Needs.{needs}
 use lib.ListN.{length, drop}
 use Rattle.lexical_util.specs.Digit.{ofDigitValue}
-use Rattle.lexical_reader.proofs.PlaceLaws.{place-here}
+use Rattle.lexical_digit_reader.proofs.PlaceLaws.{place-here}
 use Rattle.outage.specs.Code.{numberOn}
 use Rattle.outage.proofs.NumberLaws.{at-end, at-other, at-letter, at-above, at-next}
 use Rattle.outage.proofs.line.number_on.Statement.{statement}

@@ -1,4 +1,4 @@
--- `lexical_reader::next_digit` meets its contract: a walk of its MIR, by hand. The `Reader` that `new` returns is held in a local, copied, and passed to `digit` and to `step`. All that the proof knows of the three is that each meets its contract.
+-- `lexical_digit_reader::next_digit` meets its contract: a walk of its MIR, by hand. The `Reader` that `new` returns is held in a local, copied, and passed to `digit` and to `step`. All that the proof knows of the three is that each meets its contract.
 -- In a local of a body MIR erases the lifetime of the struct's type, so a reader's machine value is shown to have the type at `erased`: what the struct owns does not say the lifetime's name. A `NextDigit` owns facts alone, so it is made of what is known of its two fields.
 -- Assumes nothing.
 use mathlib.Core.Path.{_≡_, refl, ap, _∙_}
@@ -43,30 +43,30 @@ use Rattle.lexical_util.specs.Digit.{ofDigitValue}
 use Rattle.lexical_util.specs.declared.digit.DigitValue.{DigitValue}
 use Rattle.lexical_util.proofs.digit.DigitValue as S
 use Rattle.lexical_util.proofs.digit.DigitValue.Laws as S′
-use Rattle.lexical_reader.specs.Place.{digitAt, placeAfter}
-use Rattle.lexical_reader.specs.declared.Reader.{Reader}
-use Rattle.lexical_reader.specs.declared.NextDigit.{NextDigit}
-use Rattle.lexical_reader.proofs.Reader as T
-use Rattle.lexical_reader.proofs.Reader.Laws as T′
-use Rattle.lexical_reader.proofs.NextDigit as N
-use Rattle.lexical_reader.proofs.NextDigit.Laws as N′
-use Rattle.lexical_reader.proofs.Taken.{B, Own, Passed, Asks, asked, twice, passes}
-use Rattle.lexical_reader.proofs.new as new
-use Rattle.lexical_reader.proofs.new.Symbol as new-def
-use Rattle.lexical_reader.proofs.new.Symbol.{name as #new}
-use Rattle.lexical_reader.proofs.new.Met as new-thm
-use Rattle.lexical_reader.proofs.digit as digit
-use Rattle.lexical_reader.proofs.digit.Symbol as digit-def
-use Rattle.lexical_reader.proofs.digit.Symbol.{name as #digit}
-use Rattle.lexical_reader.proofs.digit.Met as digit-thm
-use Rattle.lexical_reader.proofs.step as step
-use Rattle.lexical_reader.proofs.step.Symbol as step-def
-use Rattle.lexical_reader.proofs.step.Symbol.{name as #step}
-use Rattle.lexical_reader.proofs.step.Met as step-thm
-use Rattle.lexical_reader.proofs.next_digit.Key.{name as #next-digit}
-use Rattle.lexical_reader.proofs.next_digit as next-digit
-use Rattle.lexical_reader.proofs.next_digit.Statement as stated
-use Rattle.lexical_reader.proofs.next_digit.Code as code
+use Rattle.lexical_digit_reader.specs.Place.{digitAt, placeAfter}
+use Rattle.lexical_digit_reader.specs.declared.Reader.{Reader}
+use Rattle.lexical_digit_reader.specs.declared.NextDigit.{NextDigit}
+use Rattle.lexical_digit_reader.proofs.Reader as T
+use Rattle.lexical_digit_reader.proofs.Reader.Laws as T′
+use Rattle.lexical_digit_reader.proofs.NextDigit as N
+use Rattle.lexical_digit_reader.proofs.NextDigit.Laws as N′
+use Rattle.lexical_digit_reader.proofs.Taken.{B, Own, Passed, Asks, asked, twice, passes}
+use Rattle.lexical_digit_reader.proofs.new as new
+use Rattle.lexical_digit_reader.proofs.new.Symbol as new-def
+use Rattle.lexical_digit_reader.proofs.new.Symbol.{name as #new}
+use Rattle.lexical_digit_reader.proofs.new.Met as new-thm
+use Rattle.lexical_digit_reader.proofs.digit as digit
+use Rattle.lexical_digit_reader.proofs.digit.Symbol as digit-def
+use Rattle.lexical_digit_reader.proofs.digit.Symbol.{name as #digit}
+use Rattle.lexical_digit_reader.proofs.digit.Met as digit-thm
+use Rattle.lexical_digit_reader.proofs.step as step
+use Rattle.lexical_digit_reader.proofs.step.Symbol as step-def
+use Rattle.lexical_digit_reader.proofs.step.Symbol.{name as #step}
+use Rattle.lexical_digit_reader.proofs.step.Met as step-thm
+use Rattle.lexical_digit_reader.proofs.next_digit.Key.{name as #next-digit}
+use Rattle.lexical_digit_reader.proofs.next_digit as next-digit
+use Rattle.lexical_digit_reader.proofs.next_digit.Statement as stated
+use Rattle.lexical_digit_reader.proofs.next_digit.Code as code
 
 abbrev stayed : Stays (next-digit.ended .signature .params) (next-digit.ended .kept)
 stayed = (stay-none-slice (0 ∷ []) tt (plain (λ _. u8)) yes, (stay-none (λ _. usize) yes, tt))
@@ -217,6 +217,6 @@ next-digit-spec 𝓤 H 𝓜 𝓖 𝓡 =
     entered 𝓤 H (tripleOf 𝓤 H (𝓖 .A) next-digit.signature (next-digit.spec 𝓤 H (𝓖 .A) (𝓜 .mem) (𝓡 .run)))
     (tables 𝓤 H 𝓜 𝓡 code.env .C) (tables 𝓤 H 𝓜 𝓡 code.env .Λ) #next-digit code.function (code.unfolded 𝓤 H 𝓜 𝓡)
     (next-digit-meets 𝓤 H (𝓖 .A) (givenOf 𝓤 H 𝓜 𝓖) (𝓜 .mem) (𝓡 .run) (tablesOf 𝓤 H 𝓜 (tables 𝓤 H 𝓜 𝓡 code.env))
-    (cited 𝓤 H (New 𝓤 H (𝓖 .A) (𝓜 .mem) (𝓡 .run)) 𝓜 𝓡 code.env #new new-def.routine code.calls-lexical-reader·new (new-thm.met 𝓤 H 𝓜 𝓖 𝓡))
-    (cited 𝓤 H (Digits 𝓤 H (𝓖 .A) (𝓜 .mem) (𝓡 .run)) 𝓜 𝓡 code.env #digit digit-def.routine code.calls-lexical-reader·digit (digit-thm.met 𝓤 H 𝓜 𝓖 𝓡))
-    (cited 𝓤 H (Steps 𝓤 H (𝓖 .A) (𝓜 .mem) (𝓡 .run)) 𝓜 𝓡 code.env #step step-def.routine code.calls-lexical-reader·step (step-thm.met 𝓤 H 𝓜 𝓖 𝓡)))
+    (cited 𝓤 H (New 𝓤 H (𝓖 .A) (𝓜 .mem) (𝓡 .run)) 𝓜 𝓡 code.env #new new-def.routine code.calls-lexical-digit-reader·new (new-thm.met 𝓤 H 𝓜 𝓖 𝓡))
+    (cited 𝓤 H (Digits 𝓤 H (𝓖 .A) (𝓜 .mem) (𝓡 .run)) 𝓜 𝓡 code.env #digit digit-def.routine code.calls-lexical-digit-reader·digit (digit-thm.met 𝓤 H 𝓜 𝓖 𝓡))
+    (cited 𝓤 H (Steps 𝓤 H (𝓖 .A) (𝓜 .mem) (𝓡 .run)) 𝓜 𝓡 code.env #step step-def.routine code.calls-lexical-digit-reader·step (step-thm.met 𝓤 H 𝓜 𝓖 𝓡)))

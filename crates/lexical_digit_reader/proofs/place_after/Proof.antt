@@ -1,9 +1,9 @@
--- `lexical_reader::place_after` meets its contract: the test says whether a byte stands at the place. Assumes nothing.
+-- `lexical_digit_reader::place_after` meets its contract: the test says whether a byte stands at the place. Assumes nothing.
 use mathlib.Core.Path.{sym}
 use borrow.Author.Needs.{needs}
-use Rattle.lexical_reader.proofs.PlaceLaws.{place-here, place-past}
-use Rattle.lexical_reader.proofs.place_after.Statement.{statement}
-use Rattle.lexical_reader.proofs.place_after.Tie as tie
+use Rattle.lexical_digit_reader.proofs.PlaceLaws.{place-here, place-past}
+use Rattle.lexical_digit_reader.proofs.place_after.Statement.{statement}
+use Rattle.lexical_digit_reader.proofs.place_after.Tie as tie
 
 add-result : tie.Need-add-result
 add-result c = search needs

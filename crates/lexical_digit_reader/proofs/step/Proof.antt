@@ -1,4 +1,4 @@
--- `lexical_reader::step` meets its contract: a walk of its MIR, by hand. The reader is taken apart, `place_after` is called on the text and the place, and a reader is made of the text and the number answered. All that the proof knows of `place_after` is that it meets its contract.
+-- `lexical_digit_reader::step` meets its contract: a walk of its MIR, by hand. The reader is taken apart, `place_after` is called on the text and the place, and a reader is made of the text and the number answered. All that the proof knows of `place_after` is that it meets its contract.
 -- Assumes nothing.
 use mathlib.Core.Path.{_≡_, refl, ap}
 use Prim.Native.Nat.{ℕ, _<_, _^_}
@@ -38,19 +38,19 @@ use denote.Triple.Table.{entered, cited}
 use denote.Triple.Walked.{says, Stays, stay-none, walkOf, goes-none, Walks, ends-at, walked, walk-meets}
 use denote.Exit.{yes}
 use denote.Triple.Clauses.{ensured, lasts}
-use Rattle.lexical_reader.specs.Place.{placeAfter}
-use Rattle.lexical_reader.specs.declared.Reader.{Reader}
-use Rattle.lexical_reader.proofs.Reader as T
-use Rattle.lexical_reader.proofs.Reader.Laws as T′
-use Rattle.lexical_reader.proofs.Taken.{B, Own, D, L, fields, Parts, Asks, twice, apart}
-use Rattle.lexical_reader.proofs.place_after as place-after
-use Rattle.lexical_reader.proofs.place_after.Symbol as place-after-def
-use Rattle.lexical_reader.proofs.place_after.Symbol.{name as #place-after}
-use Rattle.lexical_reader.proofs.place_after.Met as place-after-thm
-use Rattle.lexical_reader.proofs.step.Key.{name as #step}
-use Rattle.lexical_reader.proofs.step as step
-use Rattle.lexical_reader.proofs.step.Statement as stated
-use Rattle.lexical_reader.proofs.step.Code as code
+use Rattle.lexical_digit_reader.specs.Place.{placeAfter}
+use Rattle.lexical_digit_reader.specs.declared.Reader.{Reader}
+use Rattle.lexical_digit_reader.proofs.Reader as T
+use Rattle.lexical_digit_reader.proofs.Reader.Laws as T′
+use Rattle.lexical_digit_reader.proofs.Taken.{B, Own, D, L, fields, Parts, Asks, twice, apart}
+use Rattle.lexical_digit_reader.proofs.place_after as place-after
+use Rattle.lexical_digit_reader.proofs.place_after.Symbol as place-after-def
+use Rattle.lexical_digit_reader.proofs.place_after.Symbol.{name as #place-after}
+use Rattle.lexical_digit_reader.proofs.place_after.Met as place-after-thm
+use Rattle.lexical_digit_reader.proofs.step.Key.{name as #step}
+use Rattle.lexical_digit_reader.proofs.step as step
+use Rattle.lexical_digit_reader.proofs.step.Statement as stated
+use Rattle.lexical_digit_reader.proofs.step.Code as code
 
 abbrev stayed : Stays (step.ended .signature .params) (step.ended .kept)
 stayed = (stay-none B yes, tt)
@@ -129,4 +129,4 @@ step-spec 𝓤 H 𝓜 𝓖 𝓡 =
     entered 𝓤 H (tripleOf 𝓤 H (𝓖 .A) step.signature (step.spec 𝓤 H (𝓖 .A) (𝓜 .mem) (𝓡 .run)))
     (tables 𝓤 H 𝓜 𝓡 code.env .C) (tables 𝓤 H 𝓜 𝓡 code.env .Λ) #step code.function (code.unfolded 𝓤 H 𝓜 𝓡)
     (step-meets 𝓤 H (𝓖 .A) (givenOf 𝓤 H 𝓜 𝓖) (𝓜 .mem) (𝓡 .run) (tablesOf 𝓤 H 𝓜 (tables 𝓤 H 𝓜 𝓡 code.env))
-    (cited 𝓤 H (PlaceAfter 𝓤 H (𝓖 .A) (𝓜 .mem) (𝓡 .run)) 𝓜 𝓡 code.env #place-after place-after-def.routine code.calls-lexical-reader·place-after (place-after-thm.met 𝓤 H 𝓜 𝓖 𝓡)))
+    (cited 𝓤 H (PlaceAfter 𝓤 H (𝓖 .A) (𝓜 .mem) (𝓡 .run)) 𝓜 𝓡 code.env #place-after place-after-def.routine code.calls-lexical-digit-reader·place-after (place-after-thm.met 𝓤 H 𝓜 𝓖 𝓡)))

@@ -1,4 +1,4 @@
--- `lexical_reader::new` meets its contract: a walk of its MIR, by hand. A `Reader` is made of the text and the place passed, in the result's local.
+-- `lexical_digit_reader::new` meets its contract: a walk of its MIR, by hand. A `Reader` is made of the text and the place passed, in the result's local.
 -- A `&[u8]` is Copy, so what it owns is had twice: once for the text at exit, and once inside the result, beside the facts of the place.
 -- Assumes nothing.
 use mathlib.Core.Path.{refl}
@@ -34,13 +34,13 @@ use denote.Triple.Spec.{Meets, tripleOf}
 use denote.Triple.Table.{entered}
 use denote.Triple.Walked.{says, Stays, stay-none, stay-none-slice, walkOf, goes-none, goes-none-slice, Walks, ends-at, walked, walk-meets}
 use denote.Exit.{yes}
-use Rattle.lexical_reader.specs.declared.Reader.{Reader}
-use Rattle.lexical_reader.proofs.Reader as T
-use Rattle.lexical_reader.proofs.Reader.Laws as T′
-use Rattle.lexical_reader.proofs.new.Key.{name as #new}
-use Rattle.lexical_reader.proofs.new as new
-use Rattle.lexical_reader.proofs.new.Statement as stated
-use Rattle.lexical_reader.proofs.new.Code as code
+use Rattle.lexical_digit_reader.specs.declared.Reader.{Reader}
+use Rattle.lexical_digit_reader.proofs.Reader as T
+use Rattle.lexical_digit_reader.proofs.Reader.Laws as T′
+use Rattle.lexical_digit_reader.proofs.new.Key.{name as #new}
+use Rattle.lexical_digit_reader.proofs.new as new
+use Rattle.lexical_digit_reader.proofs.new.Statement as stated
+use Rattle.lexical_digit_reader.proofs.new.Code as code
 
 abbrev stayed : Stays (new.ended .signature .params) (new.ended .kept)
 stayed = (stay-none-slice (0 ∷ []) tt (plain (λ _. u8)) yes, (stay-none (λ _. usize) yes, tt))

@@ -1,9 +1,9 @@
--- `lexical_reader::digit_at` meets its contract: the test says whether a byte stands at the place. Assumes nothing.
+-- `lexical_digit_reader::digit_at` meets its contract: the test says whether a byte stands at the place. Assumes nothing.
 use mathlib.Core.Path.{sym, _∙_}
 use borrow.Author.Needs.{needs}
-use Rattle.lexical_reader.proofs.PlaceLaws.{digit-here, digit-past}
-use Rattle.lexical_reader.proofs.digit_at.Statement.{statement}
-use Rattle.lexical_reader.proofs.digit_at.Tie as tie
+use Rattle.lexical_digit_reader.proofs.PlaceLaws.{digit-here, digit-past}
+use Rattle.lexical_digit_reader.proofs.digit_at.Statement.{statement}
+use Rattle.lexical_digit_reader.proofs.digit_at.Tie as tie
 
 shared-slice-read-digit-value : tie.Need-shared-slice-read-digit-value
 shared-slice-read-digit-value c = search needs

@@ -6,7 +6,7 @@ use mathlib.Core.Option.{none}
 use borrow.Author.Tests.{lt-ltb, le-ltb}
 use lib.ListN.{length, getD}
 use Rattle.lexical_util.specs.Digit.{digitValue}
-use Rattle.lexical_reader.specs.Place.{digitAt, placeAfter}
+use Rattle.lexical_digit_reader.specs.Place.{digitAt, placeAfter}
 
 module _ (text : List ℕ) (at : ℕ) where
   pub digit-here : at < length text → digitAt text at ≡ digitValue (getD text at 0)

@@ -1,7 +1,7 @@
 // The reader keeps the text and the place it has reached. Two functions on a plain text and a place do the work; those over the struct take it apart and call them, and `next_digit` serves whoever has a text and a place.
 ghost use mathlib.Core.Path.{_≡_};
 ghost use Rattle.lexical_util.specs.Digit.{ofDigitValue};
-ghost use Rattle.lexical_reader.specs.Place.{digitAt, placeAfter};
+ghost use Rattle.lexical_digit_reader.specs.Place.{digitAt, placeAfter};
 use lexical_util::DigitValue;
 use lexical_util::digit_value;
 

@@ -1,4 +1,4 @@
--- `lexical_reader::digit` meets its contract: a walk of its MIR, by hand. The reader is taken apart, and `digit_at` is called on the text and the place. All that the proof knows of `digit_at` is that it meets its contract.
+-- `lexical_digit_reader::digit` meets its contract: a walk of its MIR, by hand. The reader is taken apart, and `digit_at` is called on the text and the place. All that the proof knows of `digit_at` is that it meets its contract.
 -- Assumes nothing.
 use mathlib.Core.Path.{_≡_, refl}
 use Prim.Native.Nat.{ℕ}
@@ -40,19 +40,19 @@ use Rattle.lexical_util.specs.Digit.{ofDigitValue}
 use Rattle.lexical_util.specs.declared.digit.DigitValue.{DigitValue}
 use Rattle.lexical_util.proofs.digit.DigitValue as S
 use Rattle.lexical_util.proofs.digit.DigitValue.Laws as S′
-use Rattle.lexical_reader.specs.Place.{digitAt}
-use Rattle.lexical_reader.specs.declared.Reader.{Reader}
-use Rattle.lexical_reader.proofs.Reader as T
-use Rattle.lexical_reader.proofs.Reader.Laws as T′
-use Rattle.lexical_reader.proofs.Taken.{B, Own, Parts, Asks, apart}
-use Rattle.lexical_reader.proofs.digit_at as digit-at
-use Rattle.lexical_reader.proofs.digit_at.Symbol as digit-at-def
-use Rattle.lexical_reader.proofs.digit_at.Symbol.{name as #digit-at}
-use Rattle.lexical_reader.proofs.digit_at.Met as digit-at-thm
-use Rattle.lexical_reader.proofs.digit.Key.{name as #digit}
-use Rattle.lexical_reader.proofs.digit as digit
-use Rattle.lexical_reader.proofs.digit.Statement as stated
-use Rattle.lexical_reader.proofs.digit.Code as code
+use Rattle.lexical_digit_reader.specs.Place.{digitAt}
+use Rattle.lexical_digit_reader.specs.declared.Reader.{Reader}
+use Rattle.lexical_digit_reader.proofs.Reader as T
+use Rattle.lexical_digit_reader.proofs.Reader.Laws as T′
+use Rattle.lexical_digit_reader.proofs.Taken.{B, Own, Parts, Asks, apart}
+use Rattle.lexical_digit_reader.proofs.digit_at as digit-at
+use Rattle.lexical_digit_reader.proofs.digit_at.Symbol as digit-at-def
+use Rattle.lexical_digit_reader.proofs.digit_at.Symbol.{name as #digit-at}
+use Rattle.lexical_digit_reader.proofs.digit_at.Met as digit-at-thm
+use Rattle.lexical_digit_reader.proofs.digit.Key.{name as #digit}
+use Rattle.lexical_digit_reader.proofs.digit as digit
+use Rattle.lexical_digit_reader.proofs.digit.Statement as stated
+use Rattle.lexical_digit_reader.proofs.digit.Code as code
 
 abbrev stayed : Stays (digit.ended .signature .params) (digit.ended .kept)
 stayed = (stay-none B yes, tt)
@@ -122,4 +122,4 @@ digit-spec 𝓤 H 𝓜 𝓖 𝓡 =
     entered 𝓤 H (tripleOf 𝓤 H (𝓖 .A) digit.signature (digit.spec 𝓤 H (𝓖 .A) (𝓜 .mem) (𝓡 .run)))
     (tables 𝓤 H 𝓜 𝓡 code.env .C) (tables 𝓤 H 𝓜 𝓡 code.env .Λ) #digit code.function (code.unfolded 𝓤 H 𝓜 𝓡)
     (digit-meets 𝓤 H (𝓖 .A) (givenOf 𝓤 H 𝓜 𝓖) (𝓜 .mem) (𝓡 .run) (tablesOf 𝓤 H 𝓜 (tables 𝓤 H 𝓜 𝓡 code.env))
-    (cited 𝓤 H (DigitAt 𝓤 H (𝓖 .A) (𝓜 .mem) (𝓡 .run)) 𝓜 𝓡 code.env #digit-at digit-at-def.routine code.calls-lexical-reader·digit-at (digit-at-thm.met 𝓤 H 𝓜 𝓖 𝓡)))
+    (cited 𝓤 H (DigitAt 𝓤 H (𝓖 .A) (𝓜 .mem) (𝓡 .run)) 𝓜 𝓡 code.env #digit-at digit-at-def.routine code.calls-lexical-digit-reader·digit-at (digit-at-thm.met 𝓤 H 𝓜 𝓖 𝓡)))

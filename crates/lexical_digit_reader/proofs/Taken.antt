@@ -28,9 +28,9 @@ use denote.Struct.Declared.{Declared}
 use denote.Struct.Laws as LL
 use denote.Struct.Rest.{all-own, ownAt, rest, own-open, own-out}
 use denote.Struct.Values.{Values}
-use Rattle.lexical_reader.specs.declared.Reader.{Reader}
-use Rattle.lexical_reader.proofs.Reader as T
-use Rattle.lexical_reader.proofs.Reader.Laws as T′
+use Rattle.lexical_digit_reader.specs.declared.Reader.{Reader}
+use Rattle.lexical_digit_reader.proofs.Reader as T
+use Rattle.lexical_digit_reader.proofs.Reader.Laws as T′
 
 -- the struct's type, over the signature's lifetimes
 abbrev pub B : Lfts 1 → RattleType
