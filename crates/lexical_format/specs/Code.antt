@@ -1,4 +1,4 @@
--- The reader's checks by the numbers that they look at. That these are document 01's is a law, not part of what is believed.
+-- The reader's checks by the numbers that they look at. That these are document 01's is a law; no exported contract cites them. Definitions only.
 use Prim.Native.Nat.{ℕ}
 use mathlib.Core.Bool.{Bool, not, _||_}
 use mathlib.Core.List.{[], _∷_}

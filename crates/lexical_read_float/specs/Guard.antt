@@ -1,4 +1,4 @@
--- What settles the rounding of a long number: its leading bits, the last of them the guard bit, and whether all bits below are clear. Definitions only.
+-- What settles the rounding of a long number: its leading bits, the last of them the guard bit, and whether all bits below are clear. No exported contract cites it. Definitions only.
 use Prim.Native.Nat.{ℕ, zero, suc, _+_, _*_, _/_, _%_, _^_, _<_}
 use mathlib.Core.Path.{_≡_}
 use mathlib.Core.Bool.{Bool, true, false, not, _&&_}

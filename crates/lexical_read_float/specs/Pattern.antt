@@ -1,4 +1,4 @@
--- The bit pattern of a rounded number, from its leading bits. The value is those bits and what is below them, times 2 ^ up / 2 ^ down. Definitions only.
+-- The bit pattern of a rounded number, from its leading bits. The value is those bits and what is below them, times 2 ^ up / 2 ^ down. No exported contract cites it. Definitions only.
 use Prim.Native.Nat.{ℕ, _+_, _-_, _*_, _/_, _^_}
 use mathlib.Core.Bool.{Bool}
 use lib.Ieee.{Format, prec, low, size, hid, ones}

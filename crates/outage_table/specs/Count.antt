@@ -1,4 +1,4 @@
--- What each case of `Count` and of `Rows` stands for. Definitions only.
+-- What each case of `Count` and of `Rows` stands for. No exported contract cites it. Definitions only.
 use Prim.Native.Nat.{ℕ}
 use mathlib.Core.Path.{_≡_}
 use mathlib.Core.List.{List}
