@@ -1,7 +1,11 @@
 #!/usr/bin/env python3
-"""Prints the list `data/edges.txt`: texts at the edges of reading, and what document 01 answers to each, in whole numbers and fractions, with no code of this repository:
+"""Prints the list `data/edges.txt`: texts at the edges of reading, and what the documents answer to each, in whole numbers and fractions, with no code of this repository:
 
     python3 crates/vectors/edges.py | diff - crates/vectors/data/edges.txt
+
+With `long` it prints a list of long texts at the top edge, apart since the program that replays them has room for half a million bytes:
+
+    python3 crates/vectors/edges.py long | diff - crates/vectors/data/top_edge_long.txt
 
 With the name of a list it says of how many of its lines it gives the answer again:
 
@@ -62,10 +66,16 @@ def leading(value):
     return s if value >= power(s) else s - 1
 
 
+def top_edge(width):
+    """Document 02, 2.1: half a step above the largest float."""
+    stored, _, last = WIDTHS[width]
+    return (2 ** (stored + 2) - 1) * power(last - 1)
+
+
 def nearest(width, value):
     """The bits of the nearest float, ties to even."""
-    stored, least, last = WIDTHS[width]
-    if value > (2 ** (stored + 1) - 1) * power(last):
+    stored, least, _ = WIDTHS[width]
+    if value >= top_edge(width):
         return refused(11)
     if value == 0:
         return "0"
@@ -182,6 +192,7 @@ def edge_values(width):
     yield from (((full - 1) * 2**70 - 1, least - 71), (full // 2, least), (full + 1, least), (full - 1, last))
     yield from (((full - 1) * 2**70 + 1, last - 70), ((full - 1) * 2**70 - 1, last - 70), (2 * full - 1, last - 1), (1, last + stored + 1))
     yield from ((full + 1, 0), (full + 3, 0), ((full + 1) * 2**70 + 1, -70), ((full + 3) * 2**70 - 1, -70), (2 * full - 1, 0))
+    yield from (((2 * full - 1) * 2**70 - 1, last - 71), ((2 * full - 1) * 2**70 + 1, last - 71))
 
 
 def twice_rounded():
@@ -239,6 +250,22 @@ def long_texts(width):
     yield "1^" + "9" * 4095, (32, 32), 10
 
 
+def top_texts(width):
+    """In every pair the top edge in 4,096 bytes, and one more and one less in the last place: whole numbers in digits alone, or one digit before the point and an exponent behind the rest."""
+    edge = int(top_edge(width))
+    for i, (pair, (b, c)) in enumerate(PAIRS.items()):
+        exponent_radix = EXPONENT_RADICES[i % 6]
+        first = (edge.bit_length() - 1) // b
+        tail = "^" + numeral(first * b // c, exponent_radix)
+        places = 4096 - len("0.") - len(tail)
+        for unit in (-1, 0, 1):
+            if i % 2 == (width == 32):
+                yield numeral(edge + unit, pair[0]).rjust(4096, "0"), pair, exponent_radix
+            else:
+                digits = numeral(edge * 2 ** (b * (places - first)) + unit, pair[0])
+                yield digits[0] + "." + digits[1:] + tail, pair, exponent_radix
+
+
 # ---- the list
 
 def line(width, text, radix, base, exponent_radix, point, mark):
@@ -248,7 +275,7 @@ def line(width, text, radix, base, exponent_radix, point, mark):
 
 
 def lines():
-    yield "# edges.py made this list: texts at the edges of reading, with answers computed from document 01 alone, in whole numbers and fractions"
+    yield "# edges.py made this list: texts at the edges of reading, with answers computed from the documents alone, in whole numbers and fractions"
     yield "# a line has no flags, counts or breaks: formats that 4, 5 or 6 would refuse cannot stand here, and these checks do not bind the reader"
     for width in WIDTHS:
         for text in settled():
@@ -257,6 +284,13 @@ def lines():
             for case in kind:
                 yield line(width, *case)
         for text, pair, exponent_radix in long_texts(width):
+            yield line(width, text, *pair, exponent_radix, ".", "^")
+
+
+def long_lines():
+    yield "# edges.py made this list: the edge of refusal 11 in 4,096 bytes, and one more and one less in the last place, in every pair"
+    for width in WIDTHS:
+        for text, pair, exponent_radix in top_texts(width):
             yield line(width, text, *pair, exponent_radix, ".", "^")
 
 
@@ -273,5 +307,6 @@ def again(name):
 
 
 if __name__ == "__main__":
-    for row in [again(sys.argv[1])] if len(sys.argv) > 1 else lines():
+    name = sys.argv[1] if len(sys.argv) > 1 else ""
+    for row in long_lines() if name == "long" else [again(name)] if name else lines():
         print(row)

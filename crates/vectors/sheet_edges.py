@@ -1,5 +1,5 @@
 #!/usr/bin/env python3
-"""Prints the list `data/sheet_edges.txt`: tables and sheets at their edges, and what document 01 answers to each, with `layout.py` of the program `examples` for texts and `edges.py` for floats, and with no code of this repository:
+"""Prints the list `data/sheet_edges.txt`: tables and sheets at their edges, and what the documents answer to each, with `layout.py` of the program `examples` for texts and `edges.py` for floats, and with no code of this repository:
 
     python3 crates/vectors/sheet_edges.py | diff - crates/vectors/data/sheet_edges.txt
 
@@ -192,13 +192,16 @@ def sheets():
     yield from (b"1\n", b"1\n1 1", b"1\n1\n", b"1\n\n", b"1\n \n", b"1\n1 1 \n", b"1\n 1 1\n", b"1\n1  1\n", b"1\n1 1 1\n", b"1\n1 1\r\n", b"1\n1\t1\n")
     yield from (b"1\n1 1\n", b"1\n1x 1\n", b"1\n1.0p0 1x\n", b"1\n1.0p0 \n", b"1\n 1\n", b"1\n1p99999 x\n", b"1\n1 1p-99999\n", b"1\n1p2000 1\n", b"1\n1 1p2000\n", b"1\n-1 1\n")
     yield from (b"2\n1 1\n1 0.8\n", b"2\n1 0.8\n1 x\n", b"2\n1 1\n", b"2\n1 1\n1 1", b"2\n1 1\n1 1\n1", b"1\n1 1\n1 1\n", b"1\n1 1\n\n", b"1\n1.00000000000008 1\n", b"1\n1 1.00000000000008\n")
+    for end in (b"F.FFFFFFFFFFFF8p1020", b"F.FFFFFFFFFFFF8Fp1020", b"F.FFFFFFFFFFFFBFFFp1020", b"F.FFFFFFFFFFFFCp1020"):
+        yield b"1\n1.0p0 " + end + b"\n"
+        yield b"1\n" + end + b" " + end + b"\n"
     yield b"1\n" + b"0" * 4095 + b"1 " + b"0" * 4095 + b"1\n"
     yield b"1\n" + b"0" * 4096 + b"1 1\n"
     yield b"1\n1 " + b"0" * 4096 + b"1\n"
 
 
 def lines():
-    yield "# sheet_edges.py made this list: tables and sheets at their edges, with answers computed from document 01 alone"
+    yield "# sheet_edges.py made this list: tables and sheets at their edges, with answers computed from the documents alone"
     for given in (*headers(), *rows()):
         yield table_line(given)
     small = table(1, 24, ONE, ONE_AND_HALF)

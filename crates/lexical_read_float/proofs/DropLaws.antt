@@ -13,9 +13,9 @@ use lib.Ieee.Nearest.{closest, closest-same}
 use lib.Ieee.Order.{drop, kept}
 use Rattle.lexical_exponent.proofs.PowerLaws.{size-more, size-pos}
 use Rattle.lexical_read_float_spec.proofs.Closest.{closest-is}
-use Rattle.lexical_read_float.specs.Guard.{Leading, isClear, guarded, roundedUp}
+use Rattle.lexical_read_float.specs.Guard.{Leading, isClear, guarded}
 use Rattle.lexical_read_float.specs.Pattern.{lift, belowGuard}
-use Rattle.lexical_read_float.proofs.GuardLaws.{fewer, closest-unique, guarded-closest, Ceiling, scaled, raised-ceiling}
+use Rattle.lexical_read_float.proofs.GuardLaws.{fewer, closest-unique, guarded-closest}
 
 -- ---- the size of a shifted number
 size-shifted : (n s i j : ℕ) → 2 ^ (s - 1) ≤ n → n < 2 ^ s → size (n * 2 ^ i / 2 ^ j) ≡ s + i - j
@@ -74,6 +74,3 @@ module _ (f : Format) (n k bits : ℕ) (clear : Bool) (i j : ℕ) (l : Leading n
       rw (drop-is, least, unit)
       (closest-same (n * 2 ^ (i + low f)) (2 ^ (i + low f) * u) n u (mul-pos (pow-pos (i + low f)) U) U (mul-assoc n (2 ^ (i + low f)) u)
       ∙ closest-unique n u (closest n u) _ U (closest-is n u U) (guarded-closest n (2 ^ (k + count)) _ _ leading))
-
-  pub raised-is : Ceiling (n * 2 ^ i * 2 ^ low f) (2 ^ j * 2 ^ drop (prec f) (n * 2 ^ i * 2 ^ low f) (2 ^ j)) (roundedUp (bits / 2 ^ count) (isClear clear bits count))
-  raised-is = rw (drop-is, least, unit) (scaled n (2 * 2 ^ (k + count)) (2 ^ (i + low f)) _ (pow-pos (i + low f)) (raised-ceiling n (2 ^ (k + count)) _ _ leading))

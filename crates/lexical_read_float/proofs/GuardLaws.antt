@@ -1,8 +1,8 @@
--- Leading bits, a guard bit and a flag for the rest settle both roundings of a number. Nothing here is about floats. Assumes nothing.
-use Prim.Native.Nat.{ℕ, zero, suc, _+_, _*_, _/_, _%_, _^_, _≤_, _<_, zero-le}
+-- Leading bits, a guard bit and a flag for the rest settle the rounding of a number. Nothing here is about floats. Assumes nothing.
+use Prim.Native.Nat.{ℕ, zero, suc, _+_, _*_, _/_, _%_, _^_, _≤_, _<_}
 use mathlib.Core.Path.{_≡_, refl, sym, ap, _∙_}
 use mathlib.Core.Bool.{Bool, true, false, not, _&&_}
-use native.Mathlib.Nat.{add-zero, zero-mul, add-mul, add-assoc, add-comm, mul-assoc, mul-comm, mul-le-mul-right, mul-lt-mul-of-pos-right, mul-pos, one-mul, suc-mul, mod-lt, div-add-mod', zero-lt-suc}
+use native.Mathlib.Nat.{add-zero, zero-mul, add-mul, add-assoc, add-comm, mul-assoc, mul-pos, one-mul, suc-mul, mod-lt, div-add-mod', zero-lt-suc}
 use native.Mathlib.Numerals.{add-one}
 use native.Mathlib.Decide.{ℕ-discrete}
 use native.Mathlib.Omega.{arith}
@@ -11,7 +11,7 @@ use lib.Dec.{T, eqb, eqb→eq}
 use lib.Pow.{pow-add, pow-pos, split}
 use lib.Ieee.Fits.{and-l, and-r}
 use Rattle.lexical_read_float_spec.proofs.Closest.{Closest, tie}
-use Rattle.lexical_read_float.specs.Guard.{Leading, isClear, toNearest, guarded, upward, roundedUp}
+use Rattle.lexical_read_float.specs.Guard.{Leading, isClear, toNearest, guarded}
 
 -- one of two parts is set
 either : (clear : Bool) (part whole : ℕ) → (T (not clear) → 0 < whole) → (0 < part → 0 < whole) → T (not (clear && eqb part 0)) → 0 < whole
@@ -74,26 +74,6 @@ nearest-at n unit half (suc zero) rest false e g s none some = let p = some tt i
 nearest-at n unit half (suc zero) rest true e g s none some = let p = none tt in to-even n (2 * unit) half (1 * unit + rest) e (half % 2) refl (omega (arith, one-mul unit))
 nearest-at n unit half (suc (suc guard)) rest clear e g s none some = absurd (omega arith)
 
--- m is n in units of b, rounded up
-pub record Ceiling (n b m : ℕ) : Type 0 where
-  pub enough : n ≤ m * b
-  pub least : m * b < n + b
-
--- both in smaller units
-pub scaled : (n b s m : ℕ) → 0 < s → Ceiling n b m → Ceiling (n * s) (s * b) m
-scaled n b s m S c =
-    let e : m * (s * b) ≡ m * b * s = rw (mul-comm s b, mul-assoc m b s) in
-    record { enough = rw e (mul-le-mul-right s (c .enough)); least = rw (e, mul-comm s b, ← add-mul) (mul-lt-mul-of-pos-right (c .least) S) }
-
-raised-at : (n unit half guard rest : ℕ) (clear : Bool) → half * (2 * unit) + (guard * unit + rest) ≡ n → guard ≤ 1 → rest < unit → (T clear → rest ≡ 0) → (T (not clear) → 0 < rest)
-    → Ceiling n (2 * unit) (half + upward guard clear)
-raised-at n unit half zero rest true e g s none some = let p = none tt in rw add-zero (record { enough = omega (arith, zero-mul unit); least = omega (arith, zero-mul unit) })
-raised-at n unit half zero rest false e g s none some =
-    let p = some tt in
-    rw add-one (record { enough = omega (arith, zero-mul unit, suc-mul half (2 * unit)); least = omega (arith, zero-mul unit, suc-mul half (2 * unit)) })
-raised-at n unit half (suc zero) rest clear e g s none some = rw add-one (record { enough = omega (arith, one-mul unit, suc-mul half (2 * unit)); least = omega (arith, one-mul unit, suc-mul half (2 * unit)) })
-raised-at n unit half (suc (suc guard)) rest clear e g s none some = absurd (omega arith)
-
 module _ (n unit bits : ℕ) (clear : Bool) (l : Leading n unit bits clear) where
   whole : bits / 2 * (2 * unit) + (bits % 2 * unit + l .rest) ≡ n
   whole = rw (← add-assoc, ← mul-assoc (bits / 2) 2 unit, ← add-mul, div-add-mod' bits 2) (sym (l .is))
@@ -101,17 +81,3 @@ module _ (n unit bits : ℕ) (clear : Bool) (l : Leading n unit bits clear) wher
   pub guarded-closest : Closest n (2 * unit) (guarded bits clear)
   unfolding guarded
   guarded-closest = nearest-at n unit (bits / 2) (bits % 2) (l .rest) clear whole (omega arith) (l .small) (l .none) (l .some)
-
-  pub raised-ceiling : Ceiling n (2 * unit) (roundedUp bits clear)
-  unfolding roundedUp
-  raised-ceiling = raised-at n unit (bits / 2) (bits % 2) (l .rest) clear whole (omega arith) (l .small) (l .none) (l .some)
-
--- ---- rounded up is no less than to the nearest
-up-most : (guard : ℕ) (clear : Bool) (last : ℕ) → last ≤ 1 → toNearest guard clear last ≤ upward guard clear
-up-most zero clear last h = zero-le
-up-most (suc guard) false last h = omega arith
-up-most (suc guard) true last h = h
-
-pub guarded-le : (bits : ℕ) (clear : Bool) → guarded bits clear ≤ roundedUp bits clear
-unfolding guarded roundedUp
-guarded-le bits clear = let h = up-most (bits % 2) clear (bits / 2 % 2) (omega arith) in omega arith

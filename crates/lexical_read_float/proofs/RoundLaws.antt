@@ -1,5 +1,5 @@
 -- The code's shifts, tests and sums on kept bits are the definitions of their rounding, which give what reading gives. One proof for both widths. Assumes nothing.
-use Prim.Native.Nat.{ℕ, zero, suc, _+_, _-_, _*_, _/_, _%_, _^_, _≤_, _<_}
+use Prim.Native.Nat.{ℕ, _+_, _-_, _*_, _/_, _%_, _^_, _≤_, _<_}
 use mathlib.Core.Path.{_≡_, refl, sym, ap, _∙_}
 use mathlib.Core.Bool.{Bool, true, false, cond, and-false}
 use mathlib.Core.Logic.{inl, inr}
@@ -16,9 +16,9 @@ use Rattle.lexical_float.specs.declared.encoding.Encoding.{Encoding}
 use Rattle.lexical_float.specs.Encoding.{encodingOf}
 use Rattle.lexical_float.proofs.EncodingLaws.{hidden-few}
 use Rattle.lexical_read_float_spec.specs.Read.{floatOf}
-use Rattle.lexical_read_float.specs.Guard.{Leading, isClear, guarded, upward, roundedUp}
-use Rattle.lexical_read_float.specs.Pattern.{lift, belowGuard, pattern, ceiling, infinity}
-use Rattle.lexical_read_float.proofs.LeadingLaws.{pattern-le, leading-float, shifted-float, zero-float}
+use Rattle.lexical_read_float.specs.Guard.{Leading, isClear, guarded}
+use Rattle.lexical_read_float.specs.Pattern.{lift, belowGuard, pattern, infinity}
+use Rattle.lexical_read_float.proofs.LeadingLaws.{leading-float, shifted-float, zero-float}
 use Rattle.lexical_read_float.specs.declared.kept.Kept.{Kept}
 use Rattle.lexical_read_float.specs.declared.round.Rounded.{Rounded}
 use Rattle.lexical_read_float.specs.declared.round.Rounded.the-variants.{Bits, TooLarge}
@@ -65,22 +65,6 @@ module _ (bits : ℕ) (clear : Bool) where
   unfolding guarded
   nearest-up h e = rw (odd h, e)
 
-  pub raised-none : clear ≡ true → eqb (bits % 2) 0 ≡ true → bits / 2 ≡ roundedUp bits clear
-  unfolding roundedUp
-  raised-none e h = rw (eqb-true (bits % 2) 0 h, e) (sym (add-zero (bits / 2)))
-
-  pub raised-odd : eqb (bits % 2) 0 ≡ false → bits / 2 + 1 ≡ roundedUp bits clear
-  unfolding roundedUp
-  raised-odd h = rw (odd (eqb-false (bits % 2) 0 h))
-
-  pub raised-some : clear ≡ false → bits / 2 + 1 ≡ roundedUp bits clear
-  unfolding roundedUp
-  raised-some e = rw e (ap (λ (x : ℕ). bits / 2 + x) (go (bits % 2)))
-    where
-      go : (guard : ℕ) → 1 ≡ upward guard false
-      go zero = refl
-      go (suc guard) = refl
-
 -- ---- the lift
 module _ (f : Format) (E : Encoding) (is : E ≡ encodingOf f) where
   precision : E .«mantissa_size» + 1 ≡ prec f
@@ -124,14 +108,10 @@ module _ (f : Format) (bits up down L : ℕ) (L-is : L ≡ lift f bits up down) 
   count-room w h e = let s = size-more bits 58 h in let p = prec-small f in omega arith
 
   pub far-too-large : (clear : Bool) → 2046 < L → TooLarge ≡ roundedBits f bits clear up down
-  unfolding roundedBits ceiling
-  far-too-large clear h = rw (le-leb (infinity f) (ceiling f bits clear up down) (le-trans (mul-le-mul-right (hid f) (rw (← L-is) (le-trans (ones-small f) h))) (le-add-right (lift f bits up down * hid f) _)))
+  unfolding roundedBits pattern
+  far-too-large clear h = rw (le-leb (infinity f) (pattern f bits clear up down) (le-trans (mul-le-mul-right (hid f) (rw (← L-is) (le-trans (ones-small f) h))) (le-add-right (lift f bits up down * hid f) _)))
 
   module _ (E : Encoding) (is : E ≡ encodingOf f) (clear : Bool) (w above : ℕ) (rest : Bool) (w-is : w ≡ low f) (above-is : above ≡ bits / 2 ^ (down + L - (up + w + 1))) (rest-is : rest ≡ isClear clear bits (down + L - (up + w + 1))) where
-    ceiling-is : (r : ℕ) → r ≡ roundedUp above rest → L * E .«hidden_bit_mask» + r ≡ ceiling f bits clear up down
-    unfolding ceiling belowGuard
-    ceiling-is r e = rw (e, above-is, rest-is, w-is, is, L-is)
-
     pattern-is : (r : ℕ) → r ≡ guarded above rest → L * E .«hidden_bit_mask» + r ≡ pattern f bits clear up down
     unfolding pattern belowGuard
     pattern-is r e = rw (e, above-is, rest-is, w-is, is, L-is)
@@ -139,27 +119,27 @@ module _ (f : Format) (bits up down L : ℕ) (L-is : L ≡ lift f bits up down) 
     mask-is : E .«exponent_mask» ≡ infinity f
     mask-is = rw is
 
-    pub too-large : (r : ℕ) → r ≡ roundedUp above rest → E .«exponent_mask» ≤ L * E .«hidden_bit_mask» + r → TooLarge ≡ roundedBits f bits clear up down
+    pub too-large : (q : ℕ) → q ≡ guarded above rest → E .«exponent_mask» ≤ L * E .«hidden_bit_mask» + q → TooLarge ≡ roundedBits f bits clear up down
     unfolding roundedBits
-    too-large r e h = rw (le-leb (infinity f) (ceiling f bits clear up down) (rw (mask-is, ceiling-is r e) at h))
+    too-large q e h = rw (le-leb (infinity f) (pattern f bits clear up down) (rw (mask-is, pattern-is q e) at h))
 
-    pub in-range : (r q : ℕ) → r ≡ roundedUp above rest → L * E .«hidden_bit_mask» + r < E .«exponent_mask» → q ≡ guarded above rest → Bits (L * E .«hidden_bit_mask» + q) ≡ roundedBits f bits clear up down
+    pub in-range : (q : ℕ) → q ≡ guarded above rest → L * E .«hidden_bit_mask» + q < E .«exponent_mask» → Bits (L * E .«hidden_bit_mask» + q) ≡ roundedBits f bits clear up down
     unfolding roundedBits
-    in-range r q e h g = rw (lt-leb (infinity f) (ceiling f bits clear up down) (rw (mask-is, ceiling-is r e) at h)) (ap Bits (pattern-is q g))
+    in-range q e h = rw (lt-leb (infinity f) (pattern f bits clear up down) (rw (mask-is, pattern-is q e) at h)) (ap Bits (pattern-is q e))
 
 -- ---- what the kept bits give is what reading gives
 module _ (f : Format) (bits : ℕ) (clear : Bool) (up down : ℕ) where
   pub bits-finite : IsFinite f (roundedBits f bits clear up down)
   unfolding roundedBits
-  bits-finite = go (leb (infinity f) (ceiling f bits clear up down)) refl
+  bits-finite = go (leb (infinity f) (pattern f bits clear up down)) refl
     where
-      go : (b : Bool) → leb (infinity f) (ceiling f bits clear up down) ≡ b → IsFinite f (cond b TooLarge (Bits (pattern f bits clear up down)))
+      go : (b : Bool) → leb (infinity f) (pattern f bits clear up down) ≡ b → IsFinite f (cond b TooLarge (Bits (pattern f bits clear up down)))
       go true e = tt
-      go false e = lt-of-le-of-lt (pattern-le f bits clear up down) (leb-false _ _ e)
+      go false e = leb-false _ _ e
 
-  bits-answer : ofRounded f (roundedBits f bits clear up down) ≡ cond (leb (infinity f) (ceiling f bits clear up down)) (refused 11 0) (done (ofBits f (pattern f bits clear up down)))
+  bits-answer : ofRounded f (roundedBits f bits clear up down) ≡ cond (leb (infinity f) (pattern f bits clear up down)) (refused 11 0) (done (ofBits f (pattern f bits clear up down)))
   unfolding roundedBits
-  bits-answer = go (leb (infinity f) (ceiling f bits clear up down))
+  bits-answer = go (leb (infinity f) (pattern f bits clear up down))
     where
       go : (b : Bool) → ofRounded f (cond b TooLarge (Bits (pattern f bits clear up down))) ≡ cond b (refused 11 0) (done (ofBits f (pattern f bits clear up down)))
       go true = refl

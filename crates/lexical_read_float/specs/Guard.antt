@@ -25,13 +25,3 @@ toNearest (suc guard) true last = last
 -- the bits above the guard bit, rounded to the nearest
 unfoldable pub guarded : ℕ → Bool → ℕ
 guarded bits clear = bits / 2 + toNearest (bits % 2) clear (bits / 2 % 2)
-
--- one more where anything is set
-abbrev pub upward : ℕ → Bool → ℕ
-upward zero true = 0
-upward zero false = 1
-upward (suc guard) clear = 1
-
--- the bits above the guard bit, rounded up
-unfoldable pub roundedUp : ℕ → Bool → ℕ
-roundedUp bits clear = bits / 2 + upward (bits % 2) clear

@@ -2,7 +2,7 @@
 use Prim.Native.Nat.{ℕ, _+_, _-_, _*_, _/_, _^_}
 use mathlib.Core.Bool.{Bool}
 use lib.Ieee.{Format, prec, low, size, hid, ones}
-use Rattle.lexical_read_float.specs.Guard.{isClear, guarded, roundedUp}
+use Rattle.lexical_read_float.specs.Guard.{isClear, guarded}
 
 -- how far the last bit that the width keeps stands above its least value
 unfoldable pub lift : Format → ℕ → ℕ → ℕ → ℕ
@@ -18,11 +18,6 @@ pattern f bits clear up down =
     let count = belowGuard f bits up down in
     lift f bits up down * hid f + guarded (bits / 2 ^ count) (isClear clear bits count)
 
--- the same rounded up: it reaches the infinity's exactly where the value is above the largest finite float
-unfoldable pub ceiling : Format → ℕ → Bool → ℕ → ℕ → ℕ
-ceiling f bits clear up down =
-    let count = belowGuard f bits up down in
-    lift f bits up down * hid f + roundedUp (bits / 2 ^ count) (isClear clear bits count)
-
+-- the infinity's: the pattern of a number reaches it exactly where the number is too large
 abbrev pub infinity : Format → ℕ
 infinity f = ones f * hid f

@@ -4,7 +4,7 @@ use mathlib.Core.Bool.{Bool, cond}
 use lib.Dec.{leb}
 use lib.Ieee.{Float, Format, ofBits}
 use Rattle.lexical_util.specs.Answer.{Answer, done, refused}
-use Rattle.lexical_read_float.specs.Pattern.{pattern, ceiling, infinity}
+use Rattle.lexical_read_float.specs.Pattern.{pattern, infinity}
 use Rattle.lexical_read_float.specs.declared.round.Rounded.{Rounded}
 use Rattle.lexical_read_float.specs.declared.round.Rounded.the-variants.{Bits, TooLarge}
 
@@ -20,4 +20,4 @@ IsFinite f TooLarge = Unit {0}
 
 -- from leading bits, of a number times 2 ^ up / 2 ^ down
 unfoldable pub roundedBits : Format → ℕ → Bool → ℕ → ℕ → Rounded
-roundedBits f bits clear up down = cond (leb (infinity f) (ceiling f bits clear up down)) TooLarge (Bits (pattern f bits clear up down))
+roundedBits f bits clear up down = let n = pattern f bits clear up down in cond (leb (infinity f) n) TooLarge (Bits n)

@@ -4,7 +4,7 @@ ghost use Prim.Native.Nat.{ℕ, _+_, _*_, _/_, _^_, _≤_, _<_};
 ghost use lib.Ieee.{low};
 ghost use Rattle.lexical_float.specs.Encoding.{ofWidth};
 ghost use Rattle.lexical_read_float_spec.specs.Read.{floatOf, longestRead};
-ghost use Rattle.lexical_read_float.specs.Guard.{isClear, guarded, roundedUp};
+ghost use Rattle.lexical_read_float.specs.Guard.{isClear, guarded};
 ghost use Rattle.lexical_read_float.specs.Pattern.{lift};
 ghost use Rattle.lexical_read_float.specs.Kept.{full, IsFull, Holds};
 ghost use Rattle.lexical_read_float.specs.Rounding.{ofRounded, IsFinite, roundedBits};
@@ -15,7 +15,7 @@ use lexical_exponent::significant_bits;
 use lexical_float::Width;
 use lexical_float::encoding_of;
 
-// The bits of the nearest float, or that the number is above the largest finite one.
+// The bits of the nearest float, or that the number is too large for one.
 pub(crate) enum Rounded {
     Bits(u64),
     TooLarge,
@@ -80,19 +80,7 @@ fn to_nearest(bits: u64, clear: bool) -> u64
     half + 1
 }
 
-// The same rounded up.
-fn upward(bits: u64, clear: bool) -> u64
-    ensures { λ r. ⌜ r ≡ roundedUp bits clear ⌝ }
-    ensures room { λ r. ⌜ r ≤ bits / 2 + 1 ⌝ }
-{
-    let half = bits / 2;
-    if clear && bits % 2 == 0 {
-        return half;
-    }
-    half + 1
-}
-
-// The number is the bits and what is below them, times 2^up / 2^down. Rounded up, the bits of a number above the largest finite float reach the infinity's.
+// The number is the bits and what is below them, times 2^up / 2^down. The bits of one that is too large reach the infinity's.
 fn round_bits(bits: u64, clear: bool, up: u32, down: u32, width: Width) -> Rounded
     requires { ⌜ (full ≤ bits) × (up ≤ 300000) × (down ≤ 300000) ⌝ }
     ensures { λ r. ⌜ r ≡ roundedBits (ofWidth width) bits clear up down ⌝ }
@@ -107,11 +95,10 @@ fn round_bits(bits: u64, clear: bool, up: u32, down: u32, width: Width) -> Round
     let above = bits_above(bits, count);
     let rest = is_clear(bits, clear, count);
     let field = lift as u64 * encoding.hidden_bit_mask;
-    let ceiling = field + upward(above, rest);
-    if ceiling >= encoding.exponent_mask {
+    let nearest = field + to_nearest(above, rest);
+    if nearest >= encoding.exponent_mask {
         return Rounded::TooLarge;
     }
-    let nearest = field + to_nearest(above, rest);
     Rounded::Bits(nearest)
 }
 

@@ -14,8 +14,8 @@ use Rattle.lexical_exponent.proofs.PowerLaws.{size-more}
 use Rattle.lexical_float.proofs.FloatLaws.{bits-of-value}
 
 -- ---- the leading p digits of z * 2 ^ k
-dropped : (p z k : ℕ) → 0 < p → z < 2 ^ p → (0 < k → 2 ^ (p - 1) ≤ z) → size (z * 2 ^ k) - p ≡ k
-dropped p z k P h l =
+pub digits-dropped : (p z k : ℕ) → 0 < p → z < 2 ^ p → (0 < k → 2 ^ (p - 1) ≤ z) → size (z * 2 ^ k) - p ≡ k
+digits-dropped p z k P h l =
     let m : size (z * 2 ^ k) ≤ p + k = size-le (z * 2 ^ k) (p + k) (shl-lt p k h) in
     elim (eq-zero-or-pos k) [
       | inl e ↦ omega arith
@@ -23,7 +23,7 @@ dropped p z k P h l =
     ]
 
 leading : (p z k : ℕ) → 0 < p → z < 2 ^ p → (0 < k → 2 ^ (p - 1) ≤ z) → z * 2 ^ k / 2 ^ (size (z * 2 ^ k) - p) ≡ z
-leading p z k P h l = rw (dropped p z k P h l) (mul-div-cancel z (pow-pos k))
+leading p z k P h l = rw (digits-dropped p z k P h l) (mul-div-cancel z (pow-pos k))
 
 -- 2 ^ p itself is 2 ^ (p - 1) * 2
 pub double : (p k : ℕ) → 0 < p → 2 ^ p * 2 ^ k ≡ 2 ^ (p - 1) * 2 ^ suc k

@@ -4,7 +4,8 @@ pub mod PlaceLaws
 pub mod Closest
 pub mod Rounded
 pub mod LastBit
-pub mod Largest
+pub mod Sides
+pub mod Edge
 pub mod NearestLaws
 pub mod ReadLaws
 pub mod Worked

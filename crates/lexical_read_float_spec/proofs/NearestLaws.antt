@@ -1,4 +1,4 @@
--- `round` gives the nearest float of a width, the even one of two equally near, and nothing else is nearest: for every value that is not too large, and for all that lie below the edge.
+-- `round` gives the nearest float of a width, the even one of two equally near, and nothing else is nearest: for every value that is not too large.
 -- One proof for both widths, subnormal floats included. Assumes nothing.
 use mathlib.Core.Path.{_≡_, sym, _∙_}
 use mathlib.Core.Logic.{_≢_}
@@ -11,15 +11,15 @@ use lib.Dec.{T}
 use lib.Pow.{pow-pos}
 use lib.Ieee.{Float, Format, prec, low, round, fits, toBits}
 use lib.Ieee.Exact.{HasValue}
-use lib.Ieee.Fits.{two, two-le-pos, round-fits}
-use lib.Ieee.Order.{drop, kept, transfer}
+use lib.Ieee.Fits.{round-fits}
+use lib.Ieee.Order.{transfer}
 use lib.Ieee.Positive.{num, den, den-pos}
 use lib.Ieee.Scale.{grid, finite}
 use Rattle.lexical_read_float_spec.specs.Round.{tooLarge, apart, distance, Nearest}
-use Rattle.lexical_read_float_spec.proofs.Rounded.{Rounded, rounded, kept-range, rounded-least, Tie, rounded-tie}
+use Rattle.lexical_read_float_spec.proofs.Rounded.{Rounded, kept-range, rounded-least, Tie, rounded-tie}
 use Rattle.lexical_float.proofs.FloatLaws.{same-fraction, OwnFraction, own-fraction, has-value, units, value-unique}
 use Rattle.lexical_read_float_spec.proofs.LastBit.{last-bit}
-use Rattle.lexical_read_float_spec.proofs.Largest.{edge, below-edge, below-overflow, round-value}
+use Rattle.lexical_read_float_spec.proofs.Edge.{positive, dropped, keeps, rounding, round-value}
 
 -- ---- distances from two floats, x and y, that are u and v in units of the smallest float: in units they compare as whole numbers
 sub-mul : (m n k : ℕ) → m * k - n * k ≡ (m - n) * k
@@ -52,28 +52,18 @@ module _ (f : Format) (a c : ℕ) (x y : Float) (u v : ℕ) (hx : num x * 2 ^ lo
       equal (distance a c x) (den x) (apart (a * l) (u * c)) (distance a c y) (den y) (apart (a * l) (v * c)) l (den-pos x) (den-pos y)
       (distance-units a c (num x) (den x) u l hx) (distance-units a c (num y) (den y) v l hy) h
 
--- ---- the float that `round` gives, below the edge
--- how many digits it drops, in units of the smallest float, and the number that it keeps
-abbrev dropped : Format → ℕ → ℕ → ℕ
-dropped f a c = drop (prec f) (a * 2 ^ low f) c
-
-abbrev keeps : Format → ℕ → ℕ → ℕ
-keeps f a c = kept (prec f) (a * 2 ^ low f) c
-
-module _ (f : Format) (s : Bool) (a c : ℕ) (C : 0 < c) (h : a < edge f * c) where
-  positive : 0 < prec f
-  positive = two-le-pos (prec f) (two f)
-
-  rounding : Rounded (prec f) (a * 2 ^ low f) c (dropped f a c) (keeps f a c)
-  rounding = rounded (prec f) (a * 2 ^ low f) c positive C
+-- ---- the float that `round` gives
+module _ (f : Format) (s : Bool) (a c : ℕ) (C : 0 < c) (h : tooLarge f a c ≡ false) where
+  abbrev near : Rounded (prec f) (a * 2 ^ low f) c (dropped f a c) (keeps f a c)
+  near = rounding f a c C
 
   result : OwnFraction (round f s a c) s (grid f a c) (2 ^ low f)
-  result = own-fraction (round f s a c) s (grid f a c) (2 ^ low f) (round-value f s a c (below-overflow f a c C h))
+  result = own-fraction (round f s a c) s (grid f a c) (2 ^ low f) (round-value f a c C s h)
 
   -- the last bit of a float that is a multiple of 2 ^ dropped within half of that from a / c
   last-bit-near : (x : Float) (z : ℕ) → 2 * apart (a * 2 ^ low f) (z * (c * 2 ^ dropped f a c)) ≤ c * 2 ^ dropped f a c → HasValue x s (num x) (den x)
       → num x * 2 ^ low f ≡ z * 2 ^ dropped f a c * den x → toBits f x % 2 ≡ z % 2
-  last-bit-near x z w v e = let d = kept-range positive C rounding z w in last-bit f s x z (dropped f a c) (d .0) (d .1) (has-value x s (z * 2 ^ dropped f a c) (2 ^ low f) v e)
+  last-bit-near x z w v e = let d = kept-range (positive f) C near z w in last-bit f s x z (dropped f a c) (d .0) (d .1) (has-value x s (z * 2 ^ dropped f a c) (2 ^ low f) v e)
 
   -- another float as near
   tie-with : (y : Float) → T (fits f y) → T (finite y) → num y * den (round f s a c) ≢ num (round f s a c) * den y
@@ -84,36 +74,29 @@ module _ (f : Format) (s : Bool) (a c : ℕ) (C : 0 < c) (h : a < edge f * c) wh
       let u = units f y p q in
       let m = u .digits * 2 ^ u .place in
       let ne : m ≢ grid f a c = λ g. d (same-size f a c y r m (grid f a c) (u .is) (result .cross) g) in
-      (m, u .is, rounded-tie positive C rounding (u .digits) (u .place) (u .few) ne (as-far f a c r y (grid f a c) m (result .cross) (u .is) e))
+      (m, u .is, rounded-tie (positive f) C near (u .digits) (u .place) (u .few) ne (as-far f a c r y (grid f a c) m (result .cross) (u .is) e))
 
-  pub nearest-below-edge : Nearest f s a c (round f s a c)
-  nearest-below-edge = record {
+  pub round-nearest : Nearest f s a c (round f s a c)
+  round-nearest = record {
     held = round-fits f s a c;
     signed = result .own;
     least = λ y p q.
         let u = units f y p q in
-        no-farther f a c (round f s a c) y (grid f a c) (u .digits * 2 ^ u .place) (result .cross) (u .is) (rounded-least positive C rounding (u .digits) (u .place) (u .few));
-    even = λ y p q d e. last-bit-near (round f s a c) (keeps f a c) (rounding .closest .within) (result .own) (result .cross) ∙ tie-with y p q d e .2 .even;
+        no-farther f a c (round f s a c) y (grid f a c) (u .digits * 2 ^ u .place) (result .cross) (u .is) (rounded-least (positive f) C near (u .digits) (u .place) (u .few));
+    even = λ y p q d e. last-bit-near (round f s a c) (keeps f a c) (near .closest .within) (result .own) (result .cross) ∙ tie-with y p q d e .2 .even;
   }
 
-  pub only-below-edge : (x : Float) → Nearest f s a c x → x ≡ round f s a c
-  only-below-edge x n =
+  pub only-nearest : (x : Float) → Nearest f s a c x → x ≡ round f s a c
+  only-nearest x n =
       let r = round f s a c in
       let v = own-fraction x s (num x) (den x) (n .signed) in
       elim (ℕ-discrete (num x * den r) (num r * den x)) [
         | yes e ↦ value-unique f s x r (num r) (den r) (den-pos r) (n .held) (round-fits f s a c) (has-value x s (num r) (den r) (n .signed) e) (result .own)
         | no d ↦
-            let e : distance a c x * den r ≡ distance a c r * den x = le-antisymm (n .least r (round-fits f s a c) (result .is-finite)) (nearest-below-edge .least x (n .held) (v .is-finite)) in
+            let e : distance a c x * den r ≡ distance a c r * den x = le-antisymm (n .least r (round-fits f s a c) (result .is-finite)) (round-nearest .least x (n .held) (v .is-finite)) in
             let o = tie-with x (n .held) (v .is-finite) d (sym e) in
             let t = o .2 in
             let odd : toBits f x % 2 ≡ 1 = last-bit-near x (t .z) (t .within) (n .signed) (rw (t .is) at (o .1)) ∙ t .odd in
             let even : toBits f x % 2 ≡ 0 = n .even r (round-fits f s a c) (result .is-finite) (λ g. d (sym g)) e in
             absurd (omega arith)
       ]
-
--- ---- where the value is not too large
-pub round-nearest : (f : Format) (s : Bool) (a c : ℕ) → 0 < c → tooLarge f a c ≡ false → Nearest f s a c (round f s a c)
-round-nearest f s a c C h = nearest-below-edge f s a c C (below-edge f a c C h)
-
-pub only-nearest : (f : Format) (s : Bool) (a c : ℕ) → 0 < c → tooLarge f a c ≡ false → (x : Float) → Nearest f s a c x → x ≡ round f s a c
-only-nearest f s a c C h = only-below-edge f s a c C (below-edge f a c C h)

@@ -1,10 +1,12 @@
 -- What the laws of reading say, of every format that passes the reader's checks 1, 2, 3. Statements only; `ReadLaws` proves them.
-use Prim.Native.Nat.{ℕ, _≤_, _<_}
+use Prim.Native.Nat.{ℕ, _*_, _≤_, _<_}
 use mathlib.Core.Path.{_≡_}
-use mathlib.Core.Bool.{Bool, false}
+use mathlib.Core.Bool.{Bool, false, not}
 use mathlib.Core.List.{List}
 use lib.ListN.{length}
 use lib.Ieee.{Float, Format, round}
+use lib.Ieee.Exact.{HasValue}
+use lib.Ieee.Scale.{finite}
 use Rattle.lexical_util.specs.Answer.{Answer, done, refused}
 use Rattle.lexical_format.specs.declared.format.Pair.{Pair}
 use Rattle.lexical_format.specs.declared.format.NumberFormat.{NumberFormat}
@@ -12,7 +14,7 @@ use Rattle.lexical_format.specs.declared.options.Options.{Options}
 use Rattle.lexical_format.specs.Format.{readingFormat}
 use Rattle.lexical_read_float_spec.specs.Shape.{Shape, WellFormed, print}
 use Rattle.lexical_read_float_spec.specs.Parse.{shapeOf, WrongAt}
-use Rattle.lexical_read_float_spec.specs.Round.{tooLarge, Nearest}
+use Rattle.lexical_read_float_spec.specs.Round.{largest, tooLarge, Nearest}
 use Rattle.lexical_read_float_spec.specs.Read.{grammarOf, magnitude, numerator, denominator, readFloat, longestRead, greatestExponent}
 
 -- what is printed is read back as the same shape
@@ -32,6 +34,14 @@ abbrev pub PlaceIsLeast : Type 0
 PlaceIsLeast =
     (F : NumberFormat) (o : Options) (row : Pair) (t : List ℕ) (number place : ℕ) → readingFormat F o ≡ done row → shapeOf (grammarOf F o) t ≡ refused number place
     → (number ≡ 9) × WrongAt (grammarOf F o) t place
+
+-- 11 begins exactly where the rounding rule gives an infinity
+abbrev pub TooLargeIsInfinite : Type 0
+TooLargeIsInfinite = (f : Format) (s : Bool) (a c : ℕ) → 0 < c → tooLarge f a c ≡ not (finite (round f s a c))
+
+-- from the largest finite float up to there it gives that float
+abbrev pub RoundIsLargest : Type 0
+RoundIsLargest = (f : Format) (s : Bool) (a c : ℕ) → 0 < c → largest f * c ≤ a → tooLarge f a c ≡ false → HasValue (round f s a c) s (largest f) 1
 
 -- the rounding rule picks a nearest float, for a value a / c that is not too large
 abbrev pub RoundIsNearest : Type 0

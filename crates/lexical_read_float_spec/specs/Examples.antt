@@ -1,5 +1,5 @@
--- Document 01's examples of reading, and settled points of it, as one list against the definition that the contracts cite. Definitions only.
-use Prim.Native.Nat.{ℕ, _+_}
+-- The documents' examples of reading, and settled points of it, as lists against the definition that the contracts cite. Definitions only.
+use Prim.Native.Nat.{ℕ, _+_, _-_, _^_}
 use Prim.Native.String.{String}
 use mathlib.Core.Bool.{Bool, false}
 use mathlib.Core.List.{List, [], _∷_, _++_}
@@ -12,6 +12,7 @@ use Rattle.lexical_util.specs.Examples.{bytes, sameAnswer, Example}
 use Rattle.lexical_format.specs.declared.format.NumberFormat.{NumberFormat}
 use Rattle.lexical_format.specs.declared.options.Options.{Options}
 use Rattle.lexical_format.specs.declared.options.RoundMode.the-variants.{Round}
+use Rattle.lexical_read_float_spec.specs.Round.{largest, edge}
 use Rattle.lexical_read_float_spec.specs.Read.{longestRead, readFloat}
 
 -- r/base/exponent radix, mark "^", all else default
@@ -53,6 +54,15 @@ is t wanted = record { name = t; holds = reads binary64 (format 16 2 10) (option
 abbrev one : ℕ
 one = 0x3ff0000000000000
 
+-- where the range ends
+unfoldable pub ends : List Example
+ends =
+    record { name = "64-bit largest"; holds = eqb (largest binary64) (2 ^ 1024 - 2 ^ 971) }
+    ∷ record { name = "64-bit edge"; holds = eqb (edge binary64) (2 ^ 1024 - 2 ^ 970) }
+    ∷ record { name = "32-bit largest"; holds = eqb (largest binary32) (2 ^ 128 - 2 ^ 104) }
+    ∷ record { name = "32-bit edge"; holds = eqb (edge binary32) (2 ^ 128 - 2 ^ 103) }
+    ∷ []
+
 -- 16/2/10, 64-bit
 unfoldable pub reading : List Example
 reading =
@@ -74,10 +84,15 @@ reading =
     ∷ is "1^-1075" (done 0)
     ∷ is "3^-1075" (done 2)
     ∷ is "1FFFFFFFFFFFFF^971" (done 0x7fefffffffffffff)
-    ∷ is "1FFFFFFFFFFFFF.1^971" (refused 11 0)
+    ∷ is "1FFFFFFFFFFFFF.1^971" (done 0x7fefffffffffffff)
+    ∷ is "1FFFFFFFFFFFFF.7FFFFFFFFFFFFFFF^971" (done 0x7fefffffffffffff)
+    ∷ is "1FFFFFFFFFFFFF.8^971" (refused 11 0)
+    ∷ is "2^1023" (refused 11 0)
     ∷ record { name = "2/2/16, mark A: 1.0AA"; holds = reads binary64 (format 2 2 16) (options 46 65) (bytes "1.0AA") (done 0x4090000000000000) }
     ∷ record { name = "2/2/10: 12"; holds = reads binary64 (format 2 2 10) (options 46 94) (bytes "12") (refused 9 1) }
     ∷ record { name = "32-bit largest"; holds = reads binary32 (format 16 2 10) (options 46 94) (bytes "F.FFFFF^124") (done 0x7f7fffff) }
+    ∷ record { name = "32-bit, below the edge"; holds = reads binary32 (format 16 2 10) (options 46 94) (bytes "F.FFFFF7FFFFFFFFF^124") (done 0x7f7fffff) }
+    ∷ record { name = "32-bit, the edge"; holds = reads binary32 (format 16 2 10) (options 46 94) (bytes "F.FFFFF8^124") (refused 11 0) }
     ∷ record { name = "mark B, a digit of the radix"; holds = reads binary64 (format 16 2 10) (options 46 66) (bytes "1") (refused 3 0) }
     ∷ []
 
@@ -90,5 +105,7 @@ long =
     read "4,000 zeros undone by the exponent" (bytes "0." ++ (replicate 4000 48 ++ bytes "1^16004")) (done one)
     ∷ read "a byte too long" (replicate (longestRead + 1) 48) (refused 12 0)
     ∷ read "the longest that is read" (replicate longestRead 48) (done 0)
+    ∷ read "below the edge by the last of 4,091 digits" (bytes "1FFFFFFFFFFFFF.7" ++ (replicate 4075 70 ++ bytes "F^971")) (done 0x7fefffffffffffff)
+    ∷ read "the edge in 4,091 digits" (bytes "1FFFFFFFFFFFFF.8" ++ (replicate 4075 48 ++ bytes "0^971")) (refused 11 0)
     ∷ read "a tie settled behind 4,000 zeros" (bytes "1.00000000000008" ++ (replicate 4000 48 ++ bytes "1")) (done (one + 1))
     ∷ []

@@ -1,21 +1,29 @@
--- From a value to a float of a width: document 01, "Reader". The value is the fraction a / c, with c above 0. Definitions only.
-use Prim.Native.Nat.{ℕ, suc, _+_, _-_, _*_, _%_, _^_, _≤_}
+-- From a value to a float of a width: document 01, "Reader", with the edge of document 02, 2.1. The value is the fraction a / c, with c above 0. Definitions only.
+use Prim.Native.Nat.{ℕ, suc, _+_, _-_, _*_, _/_, _%_, _^_, _≤_}
 use mathlib.Core.Path.{_≡_}
 use mathlib.Core.Logic.{_≢_}
 use mathlib.Core.Bool.{Bool}
-use lib.Dec.{T, ltb}
+use lib.Dec.{T, leb}
 use lib.Ieee.{Float, Format, prec, emax, fits, toBits}
 use lib.Ieee.Exact.{HasValue}
 use lib.Ieee.Positive.{num, den}
 use lib.Ieee.Scale.{finite}
 
+-- a step at the top of the range, from one float to the next: 2 ^ 971, and 2 ^ 104
+abbrev pub step : Format → ℕ
+step f = 2 ^ (suc (emax f) - prec f)
+
 -- the largest finite float, a whole number: 2 ^ 1024 - 2 ^ 971, and 2 ^ 128 - 2 ^ 104
 abbrev pub largest : Format → ℕ
-largest f = 2 ^ suc (emax f) - 2 ^ (suc (emax f) - prec f)
+largest f = 2 ^ suc (emax f) - step f
 
--- 11 too large: a value above the largest finite float
+-- half a step above it: 2 ^ 1024 - 2 ^ 970, and 2 ^ 128 - 2 ^ 103
+abbrev pub edge : Format → ℕ
+edge f = largest f + step f / 2
+
+-- 11 too large: a value from the edge on (document 02, 2.1)
 unfoldable pub tooLarge : Format → ℕ → ℕ → Bool
-tooLarge f a c = ltb (largest f * c) a
+tooLarge f a c = leb (edge f * c) a
 
 -- ---- what "the nearest float, ties to even" means; `lib.Ieee.round` computes it
 -- how far two whole numbers lie apart

@@ -33,7 +33,7 @@ use Rattle.lexical_write_float_spec.proofs.WriteLaws.{longest-text}
 use Rattle.lexical_read_float_spec.specs.Shape.{Tail, absent, Shape}
 use Rattle.lexical_read_float_spec.specs.Parse.{withTail, shapeOf}
 use Rattle.lexical_read_float_spec.specs.Read.{grammarOf, magnitude, numerator, denominator, floatOf, exponentTooLarge, exponentPlace, valueOf, readText, readFloat, longestRead, greatestExponent}
-use Rattle.lexical_read_float_spec.proofs.Largest.{not-too-large}
+use Rattle.lexical_read_float_spec.proofs.Edge.{not-too-large}
 use Rattle.lexical_read_float_spec.proofs.ReadLaws.{printed-is-read, denominator-pos}
 use Rattle.lexical_float.proofs.FloatLaws.{round-of-value}
 use Rattle.lexical_rewrite_spec.specs.Claims.{ReadAsShape, WrittenIsShaped, Denotes, WrittenIsExact, WrittenIsReadBack}
@@ -122,7 +122,7 @@ module _ (F : NumberFormat) (o : Options) (row : Pair) (R : Readable F o row) wh
 -- ---- read back
 float-done : (f : Format) (x : Float) (a c : ℕ) → 0 < c → T (fits f x) → HasValue x false a c → floatOf f a c ≡ done x
 unfolding floatOf
-float-done f x a c C h v = rw (not-too-large f x false a c h v, round-of-value f false x a c C h v)
+float-done f x a c C h v = rw (not-too-large f x false a c C h v, round-of-value f false x a c C h v)
 
 value-done : (f : Format) (row : Pair) (E : ℕ) (t : List ℕ) (s : Shape) (x : Float) → exponentTooLarge E (s .tail) ≡ false → T (fits f x) → HasValue x false (numerator row E s) (denominator row E s) → valueOf f row E t s ≡ done x
 unfolding valueOf

@@ -55,6 +55,9 @@ chains =
     ∷ sent "a record cut off before its mark" binary64 "1.8p0" (take (recordSize - 1) record2) 8 (writingRefusedAt 1 3 0) (lent 8)
     ∷ sent "2 ^ -24 above 1, kept in 64 bits" binary64 "1.000001p0" record2 30 (arrived 26) (bytes "1.000000000000000000000001" ++ lent 4)
     ∷ sent "and a tie in 32 bits, to the even float" binary32 "1.000001p0" record2 30 (arrived 3) (bytes "1.0" ++ lent 27)
+    ∷ sent "the largest float and a digit more" binary64 "F.FFFFFFFFFFFF8Fp1020" [] 18 (arrived 16) (bytes "F.VVVVVVVVVU^204" ++ lent 2)
+    ∷ sent "the same in 32 bits" binary32 "F.FFFFF7p124" record2 30 (arrived 29) (bytes "1.11111111111111111111111e127" ++ lent 1)
+    ∷ sent "half a step above the largest float" binary64 "F.FFFFFFFFFFFFCp1020" [] 18 (readingRefusedAt 0 11 0) (lent 18)
     ∷ []
 
 -- ---- records

@@ -95,6 +95,8 @@ sheets =
     stores "1.0 to 1.5" (lines ("1" ∷ "1.0p0 1.8p0" ∷ [])) 24 (done (table 1 24 (one ∷ oneAndHalf ∷ [])))
     ∷ stores "no window" (lines ("0" ∷ [])) 8 (done (table 0 8 []))
     ∷ stores "two windows" (lines ("2" ∷ "0 1.8" ∷ "10p-4 1" ∷ [])) 40 (done (table 2 40 (0 ∷ one ∷ oneAndHalf ∷ one ∷ [])))
+    ∷ stores "an end above the largest float by less than half a step" (lines ("1" ∷ "1.0p0 F.FFFFFFFFFFFF8Fp1020" ∷ [])) 24 (done (table 1 24 (one ∷ 0x7fefffffffffffff ∷ [])))
+    ∷ wrong "an end half a step above the largest float" (lines ("1" ∷ "1.0p0 F.FFFFFFFFFFFFCp1020" ∷ [])) 11 8
     ∷ wrong "no byte" [] 15 0
     ∷ wrong "a count line without LF" (bytes "0") 15 0
     ∷ wrong "an empty count line" (lines ("" ∷ [])) 15 0

@@ -51,23 +51,17 @@ cast-field c = omega arith
 mul-field : tie.Need-mul-field
 mul-field c = omega (arith, field (c .before .before .before .before))
 
-upward-requires : tie.Need-upward-requires
-upward-requires c κs = search needs
-
-add-ceiling : tie.Need-add-ceiling
-add-ceiling c = omega (arith, field (c .before .before .before .before .before))
-
-returns-2 : tie.Need-returns-2
-returns-2 c = let k = c .before .before .before .before in L.too-large _ _ _ _ _ (k .before .before .before .before .lift-of .ensures) _ (k .before .before .before .before .before .encoding-of .ensures) _ _ _ _ (k .before .before .lowest-of .ensures) (k .before .bits-above .ensures) (k .is-clear .ensures) _ (c .before .before .upward .ensures .0) (c .if2 .taken)
-
 to-nearest-requires : tie.Need-to-nearest-requires
 to-nearest-requires c κs = search needs
 
 add-nearest : tie.Need-add-nearest
-add-nearest c = omega (arith, field (c .before .before .before .before .before .before .before .before))
+add-nearest c = omega (arith, field (c .before .before .before .before .before))
+
+returns-2 : tie.Need-returns-2
+returns-2 c = let k = c .before .before .before .before in L.too-large _ _ _ _ _ (k .before .before .before .before .lift-of .ensures) _ (k .before .before .before .before .before .encoding-of .ensures) _ _ _ _ (k .before .before .lowest-of .ensures) (k .before .bits-above .ensures) (k .is-clear .ensures) _ (c .before .before .to-nearest .ensures .0) (omega arith)
 
 returns-3 : tie.Need-returns-3
-returns-3 c = let k = c .before .before .before .before .before in L.in-range _ _ _ _ _ (k .before .before .before .before .lift-of .ensures) _ (k .before .before .before .before .before .encoding-of .ensures) _ _ _ _ (k .before .before .lowest-of .ensures) (k .before .bits-above .ensures) (k .is-clear .ensures) _ _ (c .before .before .before .upward .ensures .0) (c .before .if2 .left) (c .to-nearest .ensures .0)
+returns-3 c = let k = c .before .before .before .before in L.in-range _ _ _ _ _ (k .before .before .before .before .lift-of .ensures) _ (k .before .before .before .before .before .encoding-of .ensures) _ _ _ _ (k .before .before .lowest-of .ensures) (k .before .bits-above .ensures) (k .is-clear .ensures) _ (c .before .before .to-nearest .ensures .0) (omega arith)
 
 pub round-bits-spec : {M : Type 1} → statement M
-round-bits-spec = tie.close (tie.spec encoding-of-requires lift-of-requires returns add-count lowest-of-requires add-count-2 add-count-3 sub-count bits-above-requires is-clear-requires cast-field mul-field upward-requires add-ceiling returns-2 to-nearest-requires add-nearest returns-3)
+round-bits-spec = tie.close (tie.spec encoding-of-requires lift-of-requires returns add-count lowest-of-requires add-count-2 add-count-3 sub-count bits-above-requires is-clear-requires cast-field mul-field to-nearest-requires add-nearest returns-2 returns-3)
