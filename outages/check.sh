@@ -39,12 +39,25 @@ says '401 windows' 'refused 13 at 0' "$bin/print_sheet"
 { printf '\1\0\0\0\30\0\0\0'; head -c 15 /dev/zero; printf '\200'; } > "$work/input"
 says 'a negative zero' 'refused 7 at 0' "$bin/print_sheet"
 
-# ---- the sheet programs: refusals, and arguments that are no format
+# ---- the sheet programs: refusals
 printf '1\n1.0p0 1.8p0 \n' > "$work/input"
 says 'a second space' 'refused 15 at 2' "$bin/read_sheet" 16/2/10
 says 'a second space, rewritten' 'refused 15 at 2' "$bin/rewrite_sheet" 16/2/10 2/2/10
 printf '1\n1.0p0 1.0q0\n' > "$work/input"
 says 'a wrong mark' 'refused 9 at 11' "$bin/read_sheet" 16/2/10
+
+# ---- an end that lies between the largest float and the edge of refusal 11 goes through the week and comes back as the largest float
+printf '1\n1.0p0 F.FFFFFFFFFFFF8Fp1020\n' > "$work/tuesday"
+"$bin/rewrite_sheet" 16/2/10 32/32/10 < "$work/tuesday" > "$work/wednesday"
+[ "$(sed 1d "$work/wednesday")" = '1.0p0 F.VVVVVVVVVUp204' ] || fail 'a never end on Wednesday'
+"$bin/rewrite_sheet" 32/32/10 2/2/10 < "$work/wednesday" > "$work/thursday"
+"$bin/read_sheet" 2/2/10 < "$work/thursday" > "$work/friday"
+printf '\1\0\0\0\30\0\0\0\0\0\0\0\0\0\360\77\377\377\377\377\377\377\357\177' | cmp - "$work/friday" || fail 'a never end on Friday'
+printf '1\n1.0p0 F.FFFFFFFFFFFFCp1020\n' > "$work/input"
+says 'an end at the edge' 'refused 11 at 8' "$bin/read_sheet" 16/2/10
+says 'an end at the edge, rewritten' 'refused 11 at 8' "$bin/rewrite_sheet" 16/2/10 32/32/10
+
+# ---- inputs that are too long, and arguments that are no format
 head -c 3277605 /dev/zero | tr '\0' 1 > "$work/input"
 says 'a sheet longer than any' 'refused 15 at 3277604' "$bin/read_sheet" 16/2/10
 : > "$work/input"

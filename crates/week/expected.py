@@ -1,5 +1,5 @@
 #!/usr/bin/env python3
-"""Prints what the program `week` must write, from document 01 and IEEE 754, with `layout.py` of the program `examples` for the texts:
+"""Prints what the program `week` must write, from the documents and IEEE 754, with `layout.py` of the program `examples` for the texts:
 
     python3 crates/week/expected.py | diff - crates/week/stdout
 """
@@ -51,6 +51,12 @@ def main():
             value = Fraction(struct.unpack(kind, struct.pack(whole, bits))[0])
             # nothing is lost on the way, so that the bits read on Friday are Monday's
             print(f"{width} {bits:x}: {tuesday(value)} {thursday(value)} {bits:x}")
+    # the largest float with a digit more, less than half a step above it
+    for name, bits, value in (
+        ("f64 F.FFFFFFFFFFFF8Fp1020", 0x7FEFFFFFFFFFFFFF, (2**53 - 1) * 2**971),
+        ("f32 F.FFFFF7p124", 0x7F7FFFFF, (2**24 - 1) * 2**104),
+    ):
+        print(f"{name}: {thursday(Fraction(value))} {bits:x}")
     # the first station and 100,000 more, Thursday's format and Wednesday's in turn
     print(f"100001 stations: {wednesday(Fraction.from_float(float.fromhex('0x1.921FB54442D18p1')))}")
     for name, answer in (

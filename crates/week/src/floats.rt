@@ -171,6 +171,23 @@ fn week_f32(bits: u32) {
     print::text(b"\n");
 }
 
+// A "never" end that a station wrote as the largest float with a digit more: every later text is the largest float's.
+fn never_f64(text: &[u8]) {
+    print::text(b"f64 ");
+    print::text(text);
+    print::text(b": ");
+    stations_f64(text);
+    print::text(b"\n");
+}
+
+fn never_f32(text: &[u8]) {
+    print::text(b"f32 ");
+    print::text(text);
+    print::text(b": ");
+    stations_f32(text);
+    print::text(b"\n");
+}
+
 const F64: [u64; 18] = [
     0,
     1,
@@ -228,4 +245,6 @@ fn run_f32() {
 pub(crate) fn run() {
     run_f64();
     run_f32();
+    never_f64(b"F.FFFFFFFFFFFF8Fp1020");
+    never_f32(b"F.FFFFF7p124");
 }

@@ -103,7 +103,7 @@ fn read<T: Calls>(width: u32, text: &[u8], format: &Format) -> Result<u64, Refus
 
 fn reading<T: Calls>() {
     let mut refused = 0;
-    for file in ["read.txt", "edges.txt"] {
+    for file in ["read.txt", "edges.txt", "top_edge.txt", "top_edge_long.txt"] {
         for case in list::reading(file) {
             assert_eq!(read::<T>(case.width, &case.text, &case.format), case.answer);
             refused += usize::from(case.answer.is_err());

@@ -93,7 +93,8 @@ fn chains_come_back<T: Calls>() {
 /// The texts of the reading lists too, many of them long or not as the writer would write them.
 fn chains_hand_on_the_float<T: Calls>() {
     let formats = formats();
-    for case in list::reading("read.txt") {
+    let files = ["read.txt", "top_edge.txt", "top_edge_long.txt"];
+    for case in files.into_iter().flat_map(list::reading) {
         let Ok(bits) = case.answer else { continue };
         for first in &formats {
             let last = formats[(bits % 6) as usize];
@@ -113,7 +114,8 @@ fn chains_hand_on_the_float<T: Calls>() {
 fn damaged_texts<T: Calls>() {
     let formats = formats();
     let mut count = 0;
-    for case in list::reading("read.txt").into_iter().chain(list::reading("edges.txt")) {
+    let files = ["read.txt", "edges.txt", "top_edge.txt", "top_edge_long.txt"];
+    for case in files.into_iter().flat_map(list::reading) {
         let Err(Refusal { number, place }) = case.answer else { continue };
         count += 1;
         let wanted = refused(0, Step::Reading, number, place);

@@ -46,7 +46,7 @@ impl Refusal {
             8 => "buffer too short",
             9 => "not the text of a number",
             10 => "exponent above 32,767",
-            11 => "value above the largest float",
+            11 => "value at least half a step above the largest float",
             12 => "text above 4,096 bytes",
             13 => "size of the table wrong",
             14 => "window ends before it starts",
