@@ -8,8 +8,6 @@ use native.Mathlib.Decide.{ℕ-discrete, decLe}
 use native.Mathlib.Omega.{arith}
 use lib.Arith.{lt-of-le-ne}
 use lib.Pow.{pow-pos, pow-mono, pow-lt}
-use lib.Ieee.Positive.{den}
-use Rattle.lexical_float.proofs.FloatLaws as F
 use Rattle.lexical_read_float_spec.specs.Round.{apart}
 use Rattle.lexical_read_float_spec.proofs.Rounded.{Rounded, kept-range}
 use Rattle.lexical_read_float_spec.proofs.LastBit.{double}
