@@ -1,5 +1,4 @@
 // Zeros and digits of a text, put into a buffer from a place on, where there is room for them. Each answers the next place.
-ghost use mathlib.Core.Path.{_≡_};
 ghost use Prim.Native.Nat.{_+_, _^_, _≤_, _<_};
 ghost use lib.ListN.{length};
 ghost use Rattle.lexical_write_integer_spec.specs.Write.{lastNumeral};

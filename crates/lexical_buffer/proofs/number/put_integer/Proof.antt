@@ -1,6 +1,5 @@
 -- `lexical_buffer::number::put_integer` meets its contract: what the digits call made of the part from the place on. Assumes nothing.
-use Prim.Native.Nat.{ℕ, _-_, _≤_}
-use mathlib.Core.Path.{_≡_, sym, ap, _∙_}
+use mathlib.Core.Path.{sym, ap, _∙_}
 use native.Mathlib.Omega.{arith}
 use borrow.Author.Needs.{needs}
 use Rattle.lexical_util.specs.Answer.{ofWritten}

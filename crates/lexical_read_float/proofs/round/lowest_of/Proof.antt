@@ -1,5 +1,4 @@
 -- `lexical_read_float::round::lowest_of` meets its contract: as far as 0 stands above the least exponent, by evaluation at each width. Assumes nothing.
-use Prim.Native.Nat.{ℕ}
 use mathlib.Core.Path.{_≡_, refl, ap, _∙_}
 use borrow.Author.Needs.{needs}
 use lib.IntN.{pos}

@@ -1,5 +1,5 @@
 -- `lexical_write_float::plan::has_room` meets its contract: no text is longer than its zeros and 85 bytes, and otherwise it is measured. Assumes nothing.
-use Prim.Native.Nat.{ℕ, _≤_}
+use Prim.Native.Nat.{ℕ}
 use mathlib.Core.Path.{sym, ap}
 use native.Mathlib.Omega.{arith}
 use borrow.Author.Needs.{needs}

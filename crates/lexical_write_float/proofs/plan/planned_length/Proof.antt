@@ -1,5 +1,4 @@
 -- `lexical_write_float::plan::planned_length` meets its contract: plan and exponent are measured apart. Assumes nothing.
-use mathlib.Core.Path.{_≡_}
 use native.Mathlib.Omega.{arith}
 use lib.ListN.{length-append}
 use Rattle.lexical_write_float.specs.Code.{planText, tailText}

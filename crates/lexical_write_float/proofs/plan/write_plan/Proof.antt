@@ -1,5 +1,5 @@
 -- `lexical_write_float::plan::write_plan` meets its contract: plan and exponent are put where they have room. Assumes nothing.
-use Prim.Native.Nat.{ℕ, _+_, _≤_, zero-le}
+use Prim.Native.Nat.{ℕ, _≤_, zero-le}
 use mathlib.Core.Path.{_≡_, sym, _∙_}
 use mathlib.Core.List.{List, _++_}
 use native.Mathlib.Nat.{zero-add}

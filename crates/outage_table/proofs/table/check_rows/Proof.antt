@@ -1,5 +1,5 @@
 -- `outage_table::table::check_rows` meets its contract. The loop's invariant: what is said of the rows left is said of all. Assumes nothing.
-use Prim.Native.Nat.{_+_, _-_, _≤_}
+use Prim.Native.Nat.{_-_, _≤_}
 use mathlib.Core.Path.{_≡_, sym, ap, _∙_, subst}
 use native.Mathlib.Omega.{arith}
 use borrow.Author.Needs.{needs}
