@@ -1,6 +1,6 @@
 -- The code's shifts, tests and sums on kept bits are the definitions of their rounding, which give what reading gives. One proof for both widths. Assumes nothing.
 use Prim.Native.Nat.{ℕ, _+_, _-_, _*_, _/_, _%_, _^_, _≤_, _<_}
-use mathlib.Core.Path.{_≡_, refl, sym, ap, _∙_}
+use mathlib.Core.Path.{_≡_, refl, sym, ap}
 use mathlib.Core.Bool.{Bool, true, false, cond, and-false}
 use mathlib.Core.Logic.{inl, inr}
 use native.Mathlib.Nat.{le-trans, le-add-right, lt-of-lt-of-le, lt-of-le-of-lt, add-zero, zero-mul, zero-add, mul-le-mul, mul-le-mul-right, eq-zero-or-pos, div-eq-of-lt, mod-eq-of-lt, div-mul-le-self}
@@ -8,9 +8,8 @@ use native.Mathlib.Omega.{arith}
 use borrow.Author.Tests.{le-leb, lt-leb, eq-eqb, ne-eqb, eqb-true, eqb-false, leb-false}
 use lib.Dec.{leb, eqb, lit≤}
 use lib.Pow.{pow-add, pow-pos, pow-mono, shl-lt, split}
-use lib.Ieee.{Format, binary32, binary64, prec, low, size, hid, ones, ofBits}
+use lib.Ieee.{Format, binary32, binary64, prec, low, size, hid, ones}
 use lib.Ieee.Fits.{two}
-use Rattle.lexical_util.specs.Answer.{done, refused}
 use Rattle.lexical_exponent.proofs.PowerLaws.{size-more}
 use Rattle.lexical_float.specs.declared.encoding.Encoding.{Encoding}
 use Rattle.lexical_float.specs.Encoding.{encodingOf}
@@ -137,14 +136,6 @@ module _ (f : Format) (bits : ℕ) (clear : Bool) (up down : ℕ) where
       go true e = tt
       go false e = leb-false _ _ e
 
-  bits-answer : ofRounded f (roundedBits f bits clear up down) ≡ cond (leb (infinity f) (pattern f bits clear up down)) (refused 11 0) (done (ofBits f (pattern f bits clear up down)))
-  unfolding roundedBits
-  bits-answer = go (leb (infinity f) (pattern f bits clear up down))
-    where
-      go : (b : Bool) → ofRounded f (cond b TooLarge (Bits (pattern f bits clear up down))) ≡ cond b (refused 11 0) (done (ofBits f (pattern f bits clear up down)))
-      go true = refl
-      go false = refl
-
 long : (f : Format) (bits : ℕ) → full ≤ bits → 2 ^ prec f ≤ bits
 long f bits h = let p : prec f ≤ 58 = le-trans (prec-small f) (lit≤ tt) in le-trans (pow-mono p) h
 
@@ -164,7 +155,7 @@ module _ (f : Format) (k : Kept) (up down : ℕ) where
   pub long-kept : (r : Rounded) → full ≤ k .bits → r ≡ roundedBits f (k .bits) (k .clear) (k .below + up) down → Answers f k up down r
   long-kept r l is =
       rw is (
-        λ n h. bits-answer f (k .bits) (k .clear) (k .below + up) down ∙ sym (leading-float f n (k .below) (k .bits) (k .clear) up down (h .leads) (long f (k .bits) l)),
+        λ n h. leading-float f n (k .below) (k .bits) (k .clear) up down (h .leads) (long f (k .bits) l),
         bits-finite f (k .bits) (k .clear) (k .below + up) down,
       )
 
@@ -174,8 +165,8 @@ module _ (f : Format) (k : Kept) (up down : ℕ) where
       let w : Leading x (2 ^ 0) x true = record { rest = 0; is = omega arith; small = pow-pos 0; none = λ t. refl; some = λ t. absurd t } in
       rw is (
         λ n h.
-            rw (whole-is n (k .bits) (k .below) (k .clear) e (h .leads), shifted-float f (k .bits) up down s, ← x-is, leading-float f x 0 x true up (down + s) w (long f x l), zero-add)
-            (bits-answer f x true up (down + s)),
+            rw (whole-is n (k .bits) (k .below) (k .clear) e (h .leads), shifted-float f (k .bits) up down s, ← x-is)
+            (rw zero-add at (leading-float f x 0 x true up (down + s) w (long f x l))),
         bits-finite f x true up (down + s),
       )
 

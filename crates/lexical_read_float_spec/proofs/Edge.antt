@@ -1,5 +1,5 @@
 -- Refusal 11 begins exactly where `round` gives an infinity, and from the largest float up to there `round` gives that float. One proof for both widths. Assumes nothing.
-use mathlib.Core.Path.{_≡_, refl, sym, ap, _∙_}
+use mathlib.Core.Path.{_≡_, refl, sym, _∙_}
 use mathlib.Core.Logic.{inl, inr}
 use mathlib.Core.Bool.{Bool, true, false, not}
 use Prim.Native.Nat.{ℕ, suc, _+_, _-_, _*_, _^_, _≤_, _<_}
@@ -11,14 +11,15 @@ use lib.Arith.{le→nltb}
 use lib.Dec.{T, leb, ltb, lit≤}
 use lib.Pow.{pow-add, pow-pos, pow-mono, high-ones, le-ones, ones-lt}
 use lib.Ieee.{Float, inf, Format, binary32, binary64, prec, emax, low, odd, units, round, fits}
-use lib.Ieee.Bits.{cond-no}
+use lib.Ieee.Bits.{is-true, cond-no}
 use lib.Ieee.Exact.{HasValue, units-val}
 use lib.Ieee.Fits.{two, two-le-pos, reach, round-is, round-fits}
 use lib.Ieee.Order.{drop, kept}
 use lib.Ieee.Positive.{num, den, den-pos}
 use lib.Ieee.Scale.{grid, overflow, finite}
 use Rattle.lexical_float.proofs.FloatLaws as F
-use Rattle.lexical_read_float_spec.specs.Round.{step, largest, edge, tooLarge, apart}
+use Rattle.lexical_read_float_spec.specs.Round.{topStep, largest, edge, tooLarge, apart}
+use Rattle.lexical_read_float_spec.specs.Claims.{TooLargeIsInfinite, RoundIsLargest}
 use Rattle.lexical_read_float_spec.proofs.Rounded.{Rounded, rounded, lower, rounded-least}
 use Rattle.lexical_read_float_spec.proofs.Sides.{sides}
 
@@ -26,7 +27,7 @@ use Rattle.lexical_read_float_spec.proofs.Sides.{sides}
 abbrev pub topPlace : Format → ℕ
 topPlace f = suc (emax f) - prec f + low f
 
-range-ends : (f : Format) → 2 ^ suc (emax f) ≡ 2 ^ prec f * step f
+range-ends : (f : Format) → 2 ^ suc (emax f) ≡ 2 ^ prec f * topStep f
 range-ends f =
     let s : prec f + (suc (emax f) - prec f) ≡ suc (emax f) = omega (arith, reach f) in
     rw s at (pow-add 2 (prec f) (suc (emax f) - prec f))
@@ -37,7 +38,7 @@ overflow-units f =
     rw (s, pow-add 2 (prec f) (topPlace f))
 
 -- a step is even, so that half of it is whole
-even-step : (f : Format) → step f ≡ 2 * 2 ^ (emax f - prec f)
+even-step : (f : Format) → topStep f ≡ 2 * 2 ^ (emax f - prec f)
 even-step f =
     let s : suc (emax f) - prec f ≡ suc (emax f - prec f) = omega (arith, narrower f) in
     rw s (pow-succ' 2 (emax f - prec f))
@@ -47,14 +48,14 @@ even-step f =
     narrower binary64 = lit≤ tt
 
 -- the edge lies half a step below the end of the range
-halfway : (f : Format) → 2 * edge f + step f ≡ 2 * (2 ^ prec f * step f)
-halfway f = let m : step f ≤ 2 ^ suc (emax f) = pow-mono (sub-le (suc (emax f)) (prec f)) in omega (arith, range-ends f, even-step f)
+halfway : (f : Format) → 2 * edge f + topStep f ≡ 2 * (2 ^ prec f * topStep f)
+halfway f = let m : topStep f ≤ 2 ^ suc (emax f) = pow-mono (sub-le (suc (emax f)) (prec f)) in omega (arith, range-ends f, even-step f)
 
 scaled : (e s q c l : ℕ) → 2 * e + s ≡ 2 * (q * s) → 2 * (e * c * l) + c * (s * l) ≡ 2 * (q * (c * (s * l)))
 scaled e s q c l h = rw (mul-left-comm c s l, mul-assoc e c l, ← mul-assoc 2 e (c * l), ← add-mul (2 * e) s (c * l), h, mul-assoc 2 (q * s) (c * l), mul-assoc q s (c * l))
 
 edge-units : (f : Format) (c : ℕ) → 2 * (edge f * c * 2 ^ low f) + c * 2 ^ topPlace f ≡ 2 * (2 ^ prec f * (c * 2 ^ topPlace f))
-edge-units f c = rw (pow-add 2 (suc (emax f) - prec f) (low f)) (scaled (edge f) (step f) (2 ^ prec f) c (2 ^ low f) (halfway f))
+edge-units f c = rw (pow-add 2 (suc (emax f) - prec f) (low f)) (scaled (edge f) (topStep f) (2 ^ prec f) c (2 ^ low f) (halfway f))
 
 -- ---- the test of 11, on what a / c rounds to and on its bit pattern
 pub positive : (f : Format) → 0 < prec f
@@ -96,26 +97,22 @@ round-infinite : (f : Format) (s : Bool) (a c : ℕ) → overflow f ≤ grid f a
 unfolding units
 round-infinite f s a c h = round-is f s a c ∙ cond-no (ltb (grid f a c) (overflow f)) (odd (suc (prec f)) s (keeps f a c) (dropped f a c) (low f)) (inf s) (le→nltb (grid f a c) (overflow f) h)
 
-is-true : (b : Bool) → T b → true ≡ b
-is-true true h = refl
-is-true false h = absurd h
-
-pub too-large-infinite : (f : Format) (s : Bool) (a c : ℕ) → 0 < c → tooLarge f a c ≡ not (finite (round f s a c))
-too-large-infinite f s a c C = go (tooLarge f a c) refl
+pub too-large-is-infinite : TooLargeIsInfinite
+too-large-is-infinite f s a c C = go (tooLarge f a c) refl
   where
     go : (b : Bool) → tooLarge f a c ≡ b → b ≡ not (finite (round f s a c))
     go true e = rw (round-infinite f s a c (leb-true (overflow f) (grid f a c) (sym (too-large-is f a c C .0) ∙ e)))
-    go false e = ap not (is-true (finite (round f s a c)) (F.own-fraction (round f s a c) s (grid f a c) (2 ^ low f) (round-value f a c C s e) .is-finite))
+    go false e = rw (is-true (finite (round f s a c)) (F.own-fraction (round f s a c) s (grid f a c) (2 ^ low f) (round-value f a c C s e) .is-finite))
 
 -- so no float of the width is too large
 pub not-too-large : (f : Format) (x : Float) (s : Bool) (a c : ℕ) → 0 < c → T (fits f x) → HasValue x s a c → tooLarge f a c ≡ false
-not-too-large f x s a c C p h = rw (too-large-infinite f s a c C, F.round-of-value f s x a c C p h, ← is-true (finite x) (F.own-fraction x s a c h .is-finite))
+not-too-large f x s a c C p h = rw (too-large-is-infinite f s a c C, F.round-of-value f s x a c C p h, is-true (finite x) (F.own-fraction x s a c h .is-finite))
 
 -- ---- a value that is not too large and not below the largest float rounds to that float
 largest-units : (f : Format) → largest f * 2 ^ low f ≡ (2 ^ prec f - 1) * 2 ^ topPlace f
 largest-units f =
-    let e : largest f ≡ (2 ^ prec f - 1) * step f = rw (range-ends f, ← pow-add 2 (prec f) (suc (emax f) - prec f)) (high-ones (prec f) (suc (emax f) - prec f)) in
-    rw (e, pow-add 2 (suc (emax f) - prec f) (low f), mul-assoc (2 ^ prec f - 1) (step f) (2 ^ low f))
+    let e : largest f ≡ (2 ^ prec f - 1) * topStep f = rw (range-ends f, ← pow-add 2 (prec f) (suc (emax f) - prec f)) (high-ones (prec f) (suc (emax f) - prec f)) in
+    rw (e, pow-add 2 (suc (emax f) - prec f) (low f), mul-assoc (2 ^ prec f - 1) (topStep f) (2 ^ low f))
 
 at-most : (p t j k : ℕ) → t < 2 ^ p → t * 2 ^ j < 2 ^ p * 2 ^ k → t * 2 ^ j ≤ (2 ^ p - 1) * 2 ^ k
 at-most p t j k h l = elim (decLe k j) [
@@ -137,8 +134,8 @@ at-most-largest f x s a c p h =
 nearer-below : (n l g : ℕ) → l ≤ n → g ≤ l → apart n g ≤ apart n l → g ≡ l
 nearer-below n l g a b h = omega arith
 
-pub round-largest : (f : Format) (s : Bool) (a c : ℕ) → 0 < c → largest f * c ≤ a → tooLarge f a c ≡ false → HasValue (round f s a c) s (largest f) 1
-round-largest f s a c C l h =
+pub round-is-largest : RoundIsLargest
+round-is-largest f s a c C l h =
     let x = round f s a c in
     let L = 2 ^ low f in
     let r = round-value f a c C s h in

@@ -24,10 +24,9 @@ use Rattle.lexical_read_float_spec.specs.Shape.{Shape, print}
 use Rattle.lexical_read_float_spec.specs.Parse.{Parsed, found, stuck, parse, ofParsed, shapeOf, WrongAt}
 use Rattle.lexical_read_float_spec.specs.Round.{tooLarge, Nearest}
 use Rattle.lexical_read_float_spec.specs.Read.{grammarOf, magnitude, hasMinus, basePower, numerator, denominator, floatOf, exponentTooLarge, exponentPlace, valueOf, readText, readFloat, longestRead, greatestExponent}
-use Rattle.lexical_read_float_spec.specs.Claims.{PrintedIsRead, FoundIsPrinted, PlaceIsLeast, TooLargeIsInfinite, RoundIsLargest, RoundIsNearest, OnlyOneIsNearest, NearestToText, ReadIsNearest, IsNearest, TextsAreServed}
+use Rattle.lexical_read_float_spec.specs.Claims.{PrintedIsRead, FoundIsPrinted, PlaceIsLeast, RoundIsNearest, OnlyOneIsNearest, NearestToText, ReadIsNearest, IsNearest, TextsAreServed}
 use Rattle.lexical_read_float_spec.proofs.ParseLaws.{Apart, parse-print}
 use Rattle.lexical_read_float_spec.proofs.PlaceLaws.{found-prints, wrong-at}
-use Rattle.lexical_read_float_spec.proofs.Edge.{too-large-infinite, round-largest}
 use Rattle.lexical_read_float_spec.proofs.NearestLaws.{round-nearest, only-nearest}
 
 no-digit : (radix x : ℕ) → isDigit radix x ≡ false → digitIn radix x ≡ none
@@ -77,12 +76,6 @@ place-is-least F o row t n i e h = go (parse (grammarOf F o) t) refl h
         (sym number, subst (WrongAt (grammarOf F o) t) place (wrong-at (grammarOf F o) (apart F o row e) t left p))
 
 -- ---- rounding
-pub too-large-is-infinite : TooLargeIsInfinite
-too-large-is-infinite = too-large-infinite
-
-pub round-is-largest : RoundIsLargest
-round-is-largest = round-largest
-
 pub round-is-nearest : RoundIsNearest
 round-is-nearest = round-nearest
 

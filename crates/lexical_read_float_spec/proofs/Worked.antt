@@ -9,11 +9,11 @@ use Rattle.lexical_format.specs.Format.{pairs, findPair, pairOf, badByte, badBy
 use Rattle.lexical_read_float_spec.specs.Parse.{run, signedExponent, parseTail, afterWhole, parse, shapeOf}
 use Rattle.lexical_read_float_spec.specs.Round.{tooLarge}
 use Rattle.lexical_read_float_spec.specs.Read.{numerator, denominator, floatOf, exponentTooLarge, exponentPlace, valueOf, readText, readFloat}
-use Rattle.lexical_read_float_spec.specs.Examples.{ends, reading, long}
+use Rattle.lexical_read_float_spec.specs.Examples.{rangeEnds, reading, long}
 
-pub ends-hold : failing ends ≡ []
-unfolding failing ends
-ends-hold = refl
+pub range-ends-hold : failing rangeEnds ≡ []
+unfolding failing rangeEnds
+range-ends-hold = refl
 
 pub reading-holds : failing reading ≡ []
 unfolding failing reading readFloat readText valueOf exponentTooLarge exponentPlace floatOf numerator denominator tooLarge shapeOf parse afterWhole parseTail signedExponent run readingFormat badBytes badByte pairOf findPair pairs readOn isRadix isDigit digitIn digitValue digitByte round units odd size span climb trailingZeros toBits

@@ -1,4 +1,4 @@
--- What the laws of reading say, of every format that passes the reader's checks 1, 2, 3. Statements only; `ReadLaws` proves them.
+-- What the laws of reading say, of every format that passes the reader's checks 1, 2, 3. Statements only; `ReadLaws` proves them, and `Edge` what is said of the edge.
 use Prim.Native.Nat.{ℕ, _*_, _≤_, _<_}
 use mathlib.Core.Path.{_≡_}
 use mathlib.Core.Bool.{Bool, false, not}

@@ -55,8 +55,8 @@ abbrev one : ℕ
 one = 0x3ff0000000000000
 
 -- where the range ends
-unfoldable pub ends : List Example
-ends =
+unfoldable pub rangeEnds : List Example
+rangeEnds =
     record { name = "64-bit largest"; holds = eqb (largest binary64) (2 ^ 1024 - 2 ^ 971) }
     ∷ record { name = "64-bit edge"; holds = eqb (edge binary64) (2 ^ 1024 - 2 ^ 970) }
     ∷ record { name = "32-bit largest"; holds = eqb (largest binary32) (2 ^ 128 - 2 ^ 104) }

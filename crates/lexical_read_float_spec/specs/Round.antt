@@ -10,16 +10,16 @@ use lib.Ieee.Positive.{num, den}
 use lib.Ieee.Scale.{finite}
 
 -- a step at the top of the range, from one float to the next: 2 ^ 971, and 2 ^ 104
-abbrev pub step : Format → ℕ
-step f = 2 ^ (suc (emax f) - prec f)
+abbrev pub topStep : Format → ℕ
+topStep f = 2 ^ (suc (emax f) - prec f)
 
 -- the largest finite float, a whole number: 2 ^ 1024 - 2 ^ 971, and 2 ^ 128 - 2 ^ 104
 abbrev pub largest : Format → ℕ
-largest f = 2 ^ suc (emax f) - step f
+largest f = 2 ^ suc (emax f) - topStep f
 
 -- half a step above it: 2 ^ 1024 - 2 ^ 970, and 2 ^ 128 - 2 ^ 103
 abbrev pub edge : Format → ℕ
-edge f = largest f + step f / 2
+edge f = largest f + topStep f / 2
 
 -- 11 too large: a value from the edge on (document 02, 2.1)
 unfoldable pub tooLarge : Format → ℕ → ℕ → Bool
