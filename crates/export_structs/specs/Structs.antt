@@ -41,6 +41,7 @@ optionsOf f =
       «min_significant_digits» = f .«min_significant_digits»;
       «positive_exponent_break» = f .«positive_exponent_break»;
       «negative_exponent_break» = f .«negative_exponent_break»;
+      «exponent_width» = f .«exponent_width»;
       «round_mode» = modeOf (f .truncate);
       «trim_floats» = f .«trim_floats»;
       exponent = f .exponent;

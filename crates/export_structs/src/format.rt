@@ -24,6 +24,7 @@ pub struct Format {
     pub positive_exponent_break: i32,
     pub negative_exponent_break: i32,
     pub exponent_radix: u32,
+    pub exponent_width: u32,
 }
 
 pub fn number_format_of(format: Format) -> NumberFormat
@@ -58,6 +59,7 @@ pub fn options_of(format: Format) -> Options
         min_significant_digits: format.min_significant_digits,
         positive_exponent_break: format.positive_exponent_break,
         negative_exponent_break: format.negative_exponent_break,
+        exponent_width: format.exponent_width,
         round_mode: mode_of(format.truncate),
         trim_floats: format.trim_floats,
         exponent: format.exponent,

@@ -17,11 +17,16 @@ use export_structs::number_format_of;
 use export_structs::options_of;
 
 #[no_mangle]
-pub extern "C" fn lexical_write_integer(value: u64, radix: u32, buffer: &mut [u8]) -> Answer
-    ensures { λ r. ⌜ r ≡ answerOf (written (digitsText value radix) (now (buffer .entry))) ⌝ }
-    ensures { λ _. ⌜ now (buffer .exit) ≡ held (digitsText value radix) (now (buffer .entry)) ⌝ }
+pub extern "C" fn lexical_write_integer(
+    value: u64,
+    radix: u32,
+    width: u32,
+    buffer: &mut [u8],
+) -> Answer
+    ensures { λ r. ⌜ r ≡ answerOf (written (digitsText value radix width) (now (buffer .entry))) ⌝ }
+    ensures { λ _. ⌜ now (buffer .exit) ≡ held (digitsText value radix width) (now (buffer .entry)) ⌝ }
 {
-    answer_of(lexical_write_integer::write_integer(value, radix, buffer))
+    answer_of(lexical_write_integer::write_integer(value, radix, width, buffer))
 }
 
 #[no_mangle]

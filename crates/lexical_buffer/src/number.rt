@@ -11,14 +11,14 @@ use lexical_write_integer::digit_byte;
 use lexical_write_integer::write_integer;
 
 // By the digits call, which is lent the part from the place on.
-fn put_integer(buffer: &mut [u8], at: usize, value: u64, radix: u32) -> usize
-    ensures { λ r. ⌜ r ≡ nextPlace at (digitsText value radix) (now (buffer .entry)) ⌝ }
-    ensures { λ _. ⌜ now (buffer .exit) ≡ heldFrom at (digitsText value radix) (now (buffer .entry)) ⌝ }
+fn put_integer(buffer: &mut [u8], at: usize, value: u64, radix: u32, width: u32) -> usize
+    ensures { λ r. ⌜ r ≡ nextPlace at (digitsText value radix width) (now (buffer .entry)) ⌝ }
+    ensures { λ _. ⌜ now (buffer .exit) ≡ heldFrom at (digitsText value radix width) (now (buffer .entry)) ⌝ }
 {
     if buffer.len() < at {
         return at;
     }
-    match write_integer(value, radix, &mut buffer[at..]) {
+    match write_integer(value, radix, width, &mut buffer[at..]) {
         Written::Length(count) => at + count,
         Written::Refused(_) => at,
     }
@@ -27,8 +27,8 @@ fn put_integer(buffer: &mut [u8], at: usize, value: u64, radix: u32) -> usize
 // A value of two decimal digits.
 fn put_two_digits(buffer: &mut [u8], at: usize, value: u64) -> usize
     requires { ⌜ (10 ≤ value) × (value < 100) ⌝ }
-    ensures { λ r. ⌜ r ≡ nextPlace at (digitsText value 10) (now (buffer .entry)) ⌝ }
-    ensures { λ _. ⌜ now (buffer .exit) ≡ heldFrom at (digitsText value 10) (now (buffer .entry)) ⌝ }
+    ensures { λ r. ⌜ r ≡ nextPlace at (digitsText value 10 1) (now (buffer .entry)) ⌝ }
+    ensures { λ _. ⌜ now (buffer .exit) ≡ heldFrom at (digitsText value 10 1) (now (buffer .entry)) ⌝ }
 {
     let first = digit_byte(value / 10);
     let last = digit_byte(value % 10);
@@ -41,8 +41,8 @@ fn put_two_digits(buffer: &mut [u8], at: usize, value: u64) -> usize
 }
 
 fn put_decimal(buffer: &mut [u8], at: usize, value: u64) -> usize
-    ensures { λ r. ⌜ r ≡ nextPlace at (digitsText value 10) (now (buffer .entry)) ⌝ }
-    ensures { λ _. ⌜ now (buffer .exit) ≡ heldFrom at (digitsText value 10) (now (buffer .entry)) ⌝ }
+    ensures { λ r. ⌜ r ≡ nextPlace at (digitsText value 10 1) (now (buffer .entry)) ⌝ }
+    ensures { λ _. ⌜ now (buffer .exit) ≡ heldFrom at (digitsText value 10 1) (now (buffer .entry)) ⌝ }
 {
     if value < 10 {
         let byte = digit_byte(value);
@@ -51,13 +51,13 @@ fn put_decimal(buffer: &mut [u8], at: usize, value: u64) -> usize
     if value < 100 {
         return put_two_digits(buffer, at, value);
     }
-    put_integer(buffer, at, value, 10)
+    put_integer(buffer, at, value, 10, 1)
 }
 
-// One digit, or two decimal ones, as most exponents have, are bytes and no call.
-pub fn put_number(buffer: &mut [u8], at: usize, value: u64, radix: u32) -> usize
-    ensures { λ r. ⌜ r ≡ nextPlace at (digitsText value radix) (now (buffer .entry)) ⌝ }
-    ensures { λ _. ⌜ now (buffer .exit) ≡ heldFrom at (digitsText value radix) (now (buffer .entry)) ⌝ }
+// Without zeros in front. One digit, or two decimal ones, as most exponents have, are bytes and no call.
+fn put_without_zeros(buffer: &mut [u8], at: usize, value: u64, radix: u32) -> usize
+    ensures { λ r. ⌜ r ≡ nextPlace at (digitsText value radix 1) (now (buffer .entry)) ⌝ }
+    ensures { λ _. ⌜ now (buffer .exit) ≡ heldFrom at (digitsText value radix 1) (now (buffer .entry)) ⌝ }
 {
     if radix == 10 {
         return put_decimal(buffer, at, value);
@@ -68,5 +68,16 @@ pub fn put_number(buffer: &mut [u8], at: usize, value: u64, radix: u32) -> usize
             return put_byte(buffer, at, byte);
         }
     }
-    put_integer(buffer, at, value, radix)
+    put_integer(buffer, at, value, radix, 1)
+}
+
+// The digits of value, with zeros in front up to the least width.
+pub fn put_number(buffer: &mut [u8], at: usize, value: u64, radix: u32, width: u32) -> usize
+    ensures { λ r. ⌜ r ≡ nextPlace at (digitsText value radix width) (now (buffer .entry)) ⌝ }
+    ensures { λ _. ⌜ now (buffer .exit) ≡ heldFrom at (digitsText value radix width) (now (buffer .entry)) ⌝ }
+{
+    if width == 1 {
+        return put_without_zeros(buffer, at, value, radix);
+    }
+    put_integer(buffer, at, value, radix, width)
 }

@@ -57,7 +57,7 @@ checked-then (c ∷ cs) a step = go (c .1) (checked-then cs a step)
     go true e = refl
     go false e = e
 
--- the writer's check is the reader's, then its own three
+-- the writer's check is the reader's, then its own four
 pub writer-after-reader : (F : NumberFormat) (o : Options) → checkedFormat F o ≡ andThen (readingFormat F o) (λ row. checked (writingChecks (badCounts o) F o) (done (settled o row)))
 unfolding checkedFormat writingFormat readingFormat
 writer-after-reader F o = go (pairOf F)

@@ -12,7 +12,7 @@ use lib.IntN.{ℤ, natAbs}
 use lib.ListN.{length, getD}
 use lib.Ieee.Fits.{and-l, and-r}
 use Rattle.lexical_util.specs.Answer.{done, refused, Check, checked}
-use Rattle.lexical_util.specs.Digit.{isDigit, isRadix}
+use Rattle.lexical_util.specs.Digit.{isDigit, isRadix, isWidth}
 use Rattle.lexical_exponent.specs.Exponent.{power}
 use Rattle.lexical_util.proofs.AnswerLaws.{refused-done, Passed, passed}
 use Rattle.lexical_exponent.proofs.ExponentLaws.{power-exact}
@@ -160,6 +160,7 @@ pub record Writable (F : NumberFormat) (o : Options) (row : Pair) : Type 0 where
   pub least : o .«min_significant_digits» ≤ mostCount
   pub most : o .«max_significant_digits» ≤ mostCount
   pub breaks : badBreaks o ≡ false
+  pub width : isWidth (o .«exponent_width») ≡ true
 
 pub writable : (F : NumberFormat) (o : Options) (row : Pair) → writingFormat F o ≡ done row → Writable F o row
 unfolding writingFormat badCounts
@@ -176,6 +177,7 @@ writable F o row e = go (pairOf F) refl e
           least = ltb-false mostCount (o .«min_significant_digits») (a .0);
           most = ltb-false mostCount (o .«max_significant_digits») (b .0);
           breaks = k .1 .1 .1 .0;
+          width = not-false (isWidth (o .«exponent_width»)) (k .1 .1 .1 .1 .0);
         }
 
 -- what the writer admits, the reader takes, with the same row

@@ -1,4 +1,4 @@
--- Formats, and the check of a format: document 01, "Formats" and refusals 1 to 6. Definitions only.
+-- Formats, and the check of a format: document 01, "Formats" and refusals 1 to 6; document 02, 2.2 and refusal 16. Definitions only.
 use Prim.Native.Nat.{ℕ, zero, suc}
 use mathlib.Core.Bool.{Bool, not, cond, _&&_, _||_}
 use mathlib.Core.List.{List, [], _∷_, _++_}
@@ -7,7 +7,7 @@ use lib.Dec.{ltb, eqb}
 use lib.IntN.{ℤ, pos, negsuc, negℤ}
 use lib.Signed.{ltZ}
 use Rattle.lexical_util.specs.Answer.{Answer, done, refused, andThen, Check, checked}
-use Rattle.lexical_util.specs.Digit.{isDigit, isRadix}
+use Rattle.lexical_util.specs.Digit.{isDigit, isRadix, isWidth}
 use Rattle.lexical_format.specs.declared.checks.CheckedFormat.{CheckedFormat}
 use Rattle.lexical_format.specs.declared.checks.ReadingCheck.{ReadingCheck}
 use Rattle.lexical_format.specs.declared.checks.ReadingCheck.the-variants as reading
@@ -87,9 +87,12 @@ badBreaks o = outside (negℤ (pos farthestBreak)) (negsuc 0) (lowBreak o) || ou
 abbrev pub readingChecks : NumberFormat → Options → List Check
 readingChecks F o = (2, not (isRadix (F .«exponent_radix»))) ∷ (3, badBytes F o) ∷ []
 
--- and for the writer: 4 exponent both required and forbidden; 5 counts, as they are judged; 6 breaks
+-- and for the writer: 4 exponent both required and forbidden; 5 counts, as they are judged; then 6 breaks; 16 width not 1 to 4
+abbrev pub exponentChecks : Options → List Check
+exponentChecks o = (6, badBreaks o) ∷ (16, not (isWidth (o .«exponent_width»))) ∷ []
+
 abbrev pub writingChecks : Bool → NumberFormat → Options → List Check
-writingChecks badCount F o = (4, F .«required_exponent_notation» && F .«no_exponent_notation») ∷ (5, badCount) ∷ (6, badBreaks o) ∷ []
+writingChecks badCount F o = (4, F .«required_exponent_notation» && F .«no_exponent_notation») ∷ (5, badCount) ∷ exponentChecks o
 
 -- 1 pair unknown, then the others
 abbrev pub checkedPair : List Check → Option Pair → Answer Pair
@@ -100,11 +103,11 @@ checkedPair checks (some row) = checked checks (done row)
 unfoldable pub readingFormat : NumberFormat → Options → Answer Pair
 readingFormat F o = checkedPair (readingChecks F o) (pairOf F)
 
--- 1 to 6, with 5 judged so
+-- 1 to 6 and 16, with 5 judged so
 abbrev pub judgedFormat : Bool → NumberFormat → Options → Answer Pair
 judgedFormat badCount F o = checkedPair (readingChecks F o ++ writingChecks badCount F o) (pairOf F)
 
--- the writer's 1 to 6
+-- the writer's 1 to 6 and 16
 unfoldable pub writingFormat : NumberFormat → Options → Answer Pair
 writingFormat F o = judgedFormat (badCounts o) F o
 

@@ -1,7 +1,7 @@
-// The checks of a format, for which the Rust has assertions: document 01, refusals 1 to 6 in their order. The reader stops after 3.
+// The checks of a format, for which the Rust has assertions: document 01, refusals 1 to 6 in their order, and document 02, 16. The reader stops after 3.
 ghost use mathlib.Core.Path.{_≡_};
 ghost use Rattle.lexical_util.specs.Answer.{done, checked};
-ghost use Rattle.lexical_format.specs.Format.{badByte, badCounts, orAbsent, outside, readingFormat, checkedFormat, settled, writingChecks, ofReadingCheck, ofWritingCheck};
+ghost use Rattle.lexical_format.specs.Format.{badByte, badCounts, orAbsent, outside, readingFormat, checkedFormat, settled, exponentChecks, writingChecks, ofReadingCheck, ofWritingCheck};
 ghost use Rattle.lexical_format.specs.Code.{badBytesOf, readingOf};
 use crate::format::FoundPair;
 use crate::format::NumberFormat;
@@ -121,7 +121,35 @@ pub fn check_reading(format: NumberFormat, options: Options) -> ReadingCheck
     check_numbers(radix, base, power, options.decimal_point, options.exponent)
 }
 
-// 4, 5, 6 of a format that passed the reader's check with the row.
+// 6, 16 of a format that passed the checks before them, with the row.
+fn check_exponents(options: Options, row: Pair) -> WritingCheck
+    ensures { λ r. ⌜ ofWritingCheck r ≡ checked (exponentChecks options) (done (settled options row)) ⌝ }
+{
+    let low = or_absent(-5, options.negative_exponent_break);
+    let high = or_absent(9, options.positive_exponent_break);
+    if outside(BitExponent(LOWEST_BREAK), BitExponent(-1), low)
+        || outside(BitExponent(1), BitExponent(HIGHEST_BREAK), high)
+    {
+        return WritingCheck::Refused(Refusal {
+            number: 6,
+            place: 0,
+        });
+    }
+    if !lexical_util::is_width(options.exponent_width) {
+        return WritingCheck::Refused(Refusal {
+            number: 16,
+            place: 0,
+        });
+    }
+    WritingCheck::Passed(CheckedFormat {
+        b: row.b,
+        c: row.c,
+        negative_exponent_break: low,
+        positive_exponent_break: high,
+    })
+}
+
+// 4, 5, 6, 16 of a format that passed the reader's check with the row.
 fn check_writing(format: NumberFormat, options: Options, row: Pair) -> WritingCheck
     ensures { λ r. ⌜ ofWritingCheck r ≡ checked (writingChecks (badCounts options) format options) (done (settled options row)) ⌝ }
 {
@@ -137,25 +165,10 @@ fn check_writing(format: NumberFormat, options: Options, row: Pair) -> WritingCh
             place: 0,
         });
     }
-    let low = or_absent(-5, options.negative_exponent_break);
-    let high = or_absent(9, options.positive_exponent_break);
-    if outside(BitExponent(LOWEST_BREAK), BitExponent(-1), low)
-        || outside(BitExponent(1), BitExponent(HIGHEST_BREAK), high)
-    {
-        return WritingCheck::Refused(Refusal {
-            number: 6,
-            place: 0,
-        });
-    }
-    WritingCheck::Passed(CheckedFormat {
-        b: row.b,
-        c: row.c,
-        negative_exponent_break: low,
-        positive_exponent_break: high,
-    })
+    check_exponents(options, row)
 }
 
-// The writer's check: the reader's, then 4, 5, 6.
+// The writer's check: the reader's, then 4, 5, 6, 16.
 pub fn check(format: NumberFormat, options: Options) -> WritingCheck
     ensures { λ r. ⌜ ofWritingCheck r ≡ checkedFormat format options ⌝ }
 {

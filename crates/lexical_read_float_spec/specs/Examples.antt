@@ -33,6 +33,7 @@ options point mark = record {
   «min_significant_digits» = 0;
   «positive_exponent_break» = pos 0;
   «negative_exponent_break» = pos 0;
+  «exponent_width» = 1;
   «round_mode» = Round;
   «trim_floats» = false;
   exponent = mark;

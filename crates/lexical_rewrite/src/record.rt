@@ -8,7 +8,7 @@ use lexical_format::RoundMode;
 use lexical_rewrite_spec::TextFormat;
 
 // How many bytes a record has.
-pub const RECORD_SIZE: usize = 19;
+pub const RECORD_SIZE: usize = 20;
 
 fn byte_at(bytes: &[u8], at: usize) -> u8
     ensures { λ r. ⌜ r ≡ byteAt (now (bytes .entry)) at ⌝ }
@@ -76,10 +76,11 @@ fn options_of_record(bytes: &[u8]) -> Options
         min_significant_digits: two_bytes_at(bytes, 11),
         positive_exponent_break: signed_at(bytes, 13),
         negative_exponent_break: signed_at(bytes, 15),
+        exponent_width: byte_at(bytes, 17) as u32,
         round_mode: mode_at(bytes, 8),
         trim_floats: flag_at(bytes, 7),
-        exponent: byte_at(bytes, 18),
-        decimal_point: byte_at(bytes, 17),
+        exponent: byte_at(bytes, 19),
+        decimal_point: byte_at(bytes, 18),
     }
 }
 

@@ -10,6 +10,7 @@ use lib.IntN.{ℤ, pos, negsuc, negℤ}
 use lib.Pow.{pow-mono}
 use lib.ListN.{length, drop, length-drop}
 use Rattle.lexical_util.proofs.RadixLaws.{radix-bounds}
+use Rattle.lexical_util.proofs.WidthLaws.{width-bounds}
 use Rattle.lexical_format.specs.declared.options.RoundMode.{RoundMode}
 use Rattle.lexical_format.specs.declared.options.RoundMode.the-variants.{Round, Truncate}
 use Rattle.lexical_format.specs.Format.{orAbsent, lowBreak, outside, farthestBreak, badBreaks}
@@ -101,9 +102,10 @@ record-is-bytes G fits =
     let radix : F .«mantissa_radix» < 256 = omega (arith, fits .radix) in
     let base : F .«exponent_base» < 256 = omega (arith, fits .base) in
     let power : F .«exponent_radix» < 256 = omega (arith, fits .exponent-radix) in
+    let width : o .«exponent_width» < 256 = omega (arith, fits .width) in
     let point : o .«decimal_point» < 256 = omega (arith, fits .point) in
     let mark : o .exponent < 256 = omega (arith, fits .mark) in
-    (radix, (base, (power, (required, (forbidden, (sign, (fraction, (trim, (mode, (most .0, (most .1, (least .0, (least .1, (high .0, (high .1, (low .0, (low .1, (point, (mark, tt)))))))))))))))))))
+    (radix, (base, (power, (required, (forbidden, (sign, (fraction, (trim, (mode, (most .0, (most .1, (least .0, (least .1, (high .0, (high .1, (low .0, (low .1, (width, (point, (mark, tt))))))))))))))))))))
 
 -- ---- records one behind the other
 record-length : (G : TextFormat) (rest : List ℕ) → 0 < length (recordOf G ++ rest)
@@ -150,6 +152,7 @@ admitted-fits G row e =
       least = omega (arith, w .least);
       high-break = high-fits (o .«positive_exponent_break») (breaks .1);
       low-break = low-fits (o .«negative_exponent_break») (breaks .0);
+      width = omega (arith, width-bounds (o .«exponent_width») (w .width) .1);
       point = omega (arith, r .point .to);
       mark = omega (arith, r .mark .to);
     }

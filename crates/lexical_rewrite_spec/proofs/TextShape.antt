@@ -1,6 +1,6 @@
 -- Every text that is written is the text of a shape, which the format's grammar has. Assumes nothing.
 use Prim.Native.Nat.{ℕ, zero, suc, _+_, _-_, _*_, _/_, _^_, max}
-use mathlib.Core.Path.{_≡_, refl, ap, _∙_}
+use mathlib.Core.Path.{_≡_, refl, sym, ap, _∙_}
 use mathlib.Core.Bool.{Bool, true, false, not, cond, _&&_}
 use mathlib.Core.List.{List, [], _∷_, _++_, map, append-assoc, append-nil, map-append}
 use lib.Dec.{ltb}
@@ -8,7 +8,8 @@ use lib.IntN.{ℤ, pos, negsuc, natAbs}
 use lib.ListN.{length, take, drop, replicate, length-map}
 use Rattle.lexical_util.specs.Digit.{digitByte}
 use Rattle.lexical_exponent.specs.Exponent.{scale, place, modulo}
-use Rattle.lexical_write_integer_spec.specs.Digits.{digits, numeral}
+use Rattle.lexical_write_integer_spec.specs.Digits.{digits, widened, numeral}
+use Rattle.lexical_write_integer_spec.proofs.NumeralLaws.{numeral-one}
 use Rattle.lexical_format.specs.declared.format.Pair.{Pair}
 use Rattle.lexical_format.specs.declared.format.NumberFormat.{NumberFormat}
 use Rattle.lexical_format.specs.declared.options.Options.{Options}
@@ -50,7 +51,7 @@ module _ (F : NumberFormat) (o : Options) (row : Pair) where
   signOf (pos n) = cond (F .«required_exponent_sign») plus unsigned
 
   abbrev pub tailOf : ℤ → Tail
-  tailOf p = exponent (signOf p) (digits (F .«exponent_radix») (natAbs p * row .b / row .c))
+  tailOf p = exponent (signOf p) (widened (o .«exponent_width») (digits (F .«exponent_radix») (natAbs p * row .b / row .c)))
 
   sign-bytes : (p : ℤ) → signBytes (signOf p) ≡ exponentSign F o p
   sign-bytes (negsuc n) = refl
@@ -62,7 +63,7 @@ module _ (F : NumberFormat) (o : Options) (row : Pair) where
 
   tail-bytes : (p : ℤ) → tailBytes G (tailOf p) ≡ exponentText F o row p
   unfolding exponentText numeral
-  tail-bytes p = ap (λ (s : List ℕ). o .exponent ∷ (s ++ map digitByte (digits (F .«exponent_radix») (natAbs p * row .b / row .c)))) (sign-bytes p)
+  tail-bytes p = ap (λ (s : List ℕ). o .exponent ∷ (s ++ map digitByte (widened (o .«exponent_width») (digits (F .«exponent_radix») (natAbs p * row .b / row .c))))) (sign-bytes p)
 
   -- ---- each layout, of the digits ds
   module _ (ds : List ℕ) where
@@ -130,5 +131,9 @@ module _ (F : NumberFormat) (o : Options) (row : Pair) where
   shapeOfText m e = shapeIn (digitsIn m e) (place (row .b) (scale m e)) (digitsSoFar F o m (exactDigits (row .b) m e)) (layoutOf F o (scale m e))
 
   pub print-text : (m : ℕ) (e : ℤ) → print G (shapeOfText m e) ≡ text F o row m e
-  unfolding shapeOfText text exactDigits numeral
-  print-text m e = print-in (digitsIn m e) (place (row .b) (scale m e)) (digitsSoFar F o m (exactDigits (row .b) m e)) (layoutOf F o (scale m e))
+  unfolding shapeOfText text exactDigits
+  print-text m e =
+      let p = place (row .b) (scale m e) in
+      let soFar = digitsSoFar F o m (exactDigits (row .b) m e) in
+      let l = layoutOf F o (scale m e) in
+      print-in (digitsIn m e) p soFar l ∙ ap (λ (D : List ℕ). laidOut F o row D p soFar l) (sym (numeral-one (2 ^ row .b) (m * 2 ^ modulo e (row .b))))

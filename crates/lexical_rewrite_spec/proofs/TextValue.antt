@@ -16,8 +16,9 @@ use lib.Ieee.{up, down}
 use Rattle.lexical_util.specs.Digit.{digitsValue}
 use Rattle.lexical_exponent.specs.Exponent.{scale, place, power, modulo}
 use Rattle.lexical_util.proofs.RadixLaws.{radix-bounds}
-use Rattle.lexical_write_integer_spec.specs.Digits.{digits}
-use Rattle.lexical_write_integer_spec.proofs.DigitsLaws.{pow-mul, radix-above, digits-value, count-pos, length-numeral}
+use Rattle.lexical_write_integer_spec.specs.Digits.{digits, widened}
+use Rattle.lexical_write_integer_spec.proofs.DigitsLaws.{pow-mul, radix-above, digits-value, count-pos}
+use Rattle.lexical_write_integer_spec.proofs.NumeralLaws.{widened-value, length-one}
 use Rattle.lexical_format.specs.declared.format.Pair.{Pair}
 use Rattle.lexical_format.specs.declared.format.NumberFormat.{NumberFormat}
 use Rattle.lexical_format.specs.declared.options.Options.{Options}
@@ -73,12 +74,12 @@ module _ (F : NumberFormat) (o : Options) (row : Pair) (R : Readable F o row) wh
   magnitude-is : (p : ℤ) → row .c * magnitude E (tailOf F o row p) ≡ b * natAbs p
   magnitude-is p =
       let q = radix-bounds E (R .power) in
-      ap (λ (x : ℕ). row .c * x) (digits-value E (q .0) (power (row .b) (row .c) p)) ∙ mul-comm (row .c) (power (row .b) (row .c) p) ∙ power-whole row p (R .pair) ∙ mul-comm (natAbs p) (row .b)
+      ap (λ (x : ℕ). row .c * x) (widened-value E (o .«exponent_width») (power (row .b) (row .c) p) (q .0)) ∙ mul-comm (row .c) (power (row .b) (row .c) p) ∙ power-whole row p (R .pair) ∙ mul-comm (natAbs p) (row .b)
 
   not-negative : (p : ℕ) → hasMinus (tailOf F o row (pos p)) ≡ false
   not-negative p = go (F .«required_exponent_sign»)
     where
-      go : (t : Bool) → hasMinus (exponent (cond t plus unsigned) (digits E (power (row .b) (row .c) (pos p)))) ≡ false
+      go : (t : Bool) → hasMinus (exponent (cond t plus unsigned) (widened (o .«exponent_width») (digits E (power (row .b) (row .c) (pos p))))) ≡ false
       go true = refl
       go false = refl
 
@@ -200,5 +201,5 @@ module _ (F : NumberFormat) (o : Options) (row : Pair) (R : Readable F o row) wh
       let r = radix-above b (R .pair .some-bits) in
       laid-value m e (digits (2 ^ b) n) (shapeIn F o row (digits (2 ^ b) n) (place b (scale m e)) (digitsSoFar F o m (exactDigits b m e)) (layoutOf F o (scale m e)))
       (digits-value (2 ^ b) r n)
-      (λ M. first-place b m e (R .pair .some-bits) M ∙ ap (λ (k : ℕ). shrZ e b +ℤ pos (k - 1)) (length-numeral (2 ^ b) n))
-      (laid-in (digits (2 ^ b) n) (count-pos (2 ^ b) r n) (digitsSoFar F o m (exactDigits b m e)) (scale m e))
+      (λ M. first-place b m e (R .pair .some-bits) M ∙ ap (λ (k : ℕ). shrZ e b +ℤ pos (k - 1)) (length-one (2 ^ b) n))
+      (laid-in (digits (2 ^ b) n) (count-pos (2 ^ b) n) (digitsSoFar F o m (exactDigits b m e)) (scale m e))

@@ -12,8 +12,9 @@ use lib.Pow.{pow-pos}
 use Rattle.lexical_util.specs.Digit.{AreDigits}
 use Rattle.lexical_exponent.specs.Exponent.{scale, place, modulo}
 use Rattle.lexical_util.proofs.RadixLaws.{radix-bounds}
-use Rattle.lexical_write_integer_spec.specs.Digits.{digits}
+use Rattle.lexical_write_integer_spec.specs.Digits.{digits, widened}
 use Rattle.lexical_write_integer_spec.proofs.DigitsLaws.{radix-above, digits-below, count-pos}
+use Rattle.lexical_write_integer_spec.proofs.NumeralLaws.{length-widened, widened-below}
 use Rattle.lexical_format.specs.declared.format.Pair.{Pair}
 use Rattle.lexical_format.specs.declared.format.NumberFormat.{NumberFormat}
 use Rattle.lexical_format.specs.declared.options.Options.{Options}
@@ -66,7 +67,9 @@ module _ (F : NumberFormat) (o : Options) (row : Pair) (R : Readable F o row) wh
   tail-fits p =
       let q = radix-bounds (F .«exponent_radix») (R .power) in
       let n = natAbs p * row .b / row .c in
-      (some-digits (digits (F .«exponent_radix») n) (count-pos (F .«exponent_radix») (q .0) n), digits-below (F .«exponent_radix») (q .0) n)
+      let w = o .«exponent_width» in
+      let ds = digits (F .«exponent_radix») n in
+      (some-digits (widened w ds) (omega (arith, length-widened w ds, count-pos (F .«exponent_radix») n)), widened-below (F .«exponent_radix») w n (q .0))
 
   -- ---- each layout, of one digit or more
   module _ (ds : List ℕ) (some : Some ds) (all : AreDigits (F .«mantissa_radix») ds) where
@@ -121,5 +124,5 @@ module _ (F : NumberFormat) (o : Options) (row : Pair) (R : Readable F o row) wh
   formed-text m e =
       let r = radix-above (row .b) (R .pair .some-bits) in
       let n = m * 2 ^ modulo e (row .b) in
-      formed-in (digits (2 ^ row .b) n) (some-digits (digits (2 ^ row .b) n) (count-pos (2 ^ row .b) r n)) (rw (R .radix-is) (digits-below (2 ^ row .b) r n))
+      formed-in (digits (2 ^ row .b) n) (some-digits (digits (2 ^ row .b) n) (count-pos (2 ^ row .b) n)) (rw (R .radix-is) (digits-below (2 ^ row .b) r n))
       (place (row .b) (scale m e)) (digitsSoFar F o m (exactDigits (row .b) m e)) (layoutOf F o (scale m e))

@@ -3,9 +3,9 @@ use mathlib.Core.Path.{_≡_, refl}
 use mathlib.Core.List.{[]}
 use lib.Count.{trailingZeros}
 use lib.Ieee.{size, span, climb, odd, units, round}
-use Rattle.lexical_util.specs.Digit.{digitByte, digitValue, digitIn, isDigit, isRadix, readOn}
+use Rattle.lexical_util.specs.Digit.{digitByte, digitValue, digitIn, isDigit, isRadix, isWidth, readOn}
 use Rattle.lexical_util.specs.Examples.{failing}
-use Rattle.lexical_write_integer_spec.specs.Digits.{digitsUpTo, digits, numeral}
+use Rattle.lexical_write_integer_spec.specs.Digits.{digitsUpTo, digits, widened, numeral}
 use Rattle.lexical_format.specs.Format.{pairs, findPair, pairOf, badByte, badBytes, badCounts, badBreaks, readingFormat, writingFormat}
 use Rattle.lexical_write_float_spec.specs.Value.{normal, exactDigits}
 use Rattle.lexical_write_float_spec.specs.Limit.{multipleOf, limited}
@@ -19,7 +19,7 @@ use Rattle.lexical_rewrite_spec.specs.Record.{numberFormatOfRecord, opti
 use Rattle.lexical_rewrite_spec.specs.Examples.{chains, records}
 
 pub chains-hold : failing chains ≡ []
-unfolding failing chains chainFrom formatsOf recordsOf numberFormatOfRecord optionsOfRecord readFloat readText valueOf exponentTooLarge exponentPlace floatOf numerator denominator tooLarge shapeOf parse afterWhole parseTail signedExponent run readingFormat readOn writeText floatText limitedText text positive negative exponentText scientific layoutOf isScientific limited multipleOf exactDigits normal writingFormat badBreaks badCounts badBytes badByte pairOf findPair pairs numeral digits digitsUpTo isRadix isDigit digitIn digitValue digitByte round units odd size span climb trailingZeros
+unfolding failing chains chainFrom formatsOf recordsOf numberFormatOfRecord optionsOfRecord readFloat readText valueOf exponentTooLarge exponentPlace floatOf numerator denominator tooLarge shapeOf parse afterWhole parseTail signedExponent run readingFormat readOn writeText floatText limitedText text positive negative exponentText scientific layoutOf isScientific limited multipleOf exactDigits normal writingFormat badBreaks badCounts badBytes badByte pairOf findPair pairs numeral widened digits digitsUpTo isWidth isRadix isDigit digitIn digitValue digitByte round units odd size span climb trailingZeros
 chains-hold = refl
 
 pub records-hold : failing records ≡ []

@@ -15,7 +15,7 @@ use Rattle.lexical_util.specs.Answer.{Answer, done, refused, andThen}
 use Rattle.lexical_exponent.specs.Exponent.{scale, place, power}
 use Rattle.lexical_util.proofs.AnswerLaws.{refused-done, done-same}
 use Rattle.lexical_util.proofs.RadixLaws.{radix-bounds}
-use Rattle.lexical_write_integer_spec.proofs.DigitsLaws.{digits-value}
+use Rattle.lexical_write_integer_spec.proofs.NumeralLaws.{widened-value}
 use Rattle.lexical_format.specs.declared.format.Pair.{Pair}
 use Rattle.lexical_format.specs.declared.format.NumberFormat.{NumberFormat}
 use Rattle.lexical_format.specs.declared.options.Options.{Options}
@@ -95,7 +95,7 @@ module _ (F : NumberFormat) (o : Options) (row : Pair) (R : Readable F o row) wh
   small-tail p h =
       let q = radix-bounds (F .«exponent_radix») (R .power) in
       let x : natAbs p * row .b ≤ 1074 * 5 = mul-le-mul h (R .pair .few-bits) in
-      rw (digits-value (F .«exponent_radix») (q .0) (power (row .b) (row .c) p)) (omega (arith, div-le-self (natAbs p * row .b) (row .c)))
+      rw (widened-value (F .«exponent_radix») (o .«exponent_width») (power (row .b) (row .c) p) (q .0)) (omega (arith, div-le-self (natAbs p * row .b) (row .c)))
 
   tail-either : (a : Bool) (s t : Shape) → small (s .tail) → small (t .tail) → small (cond a s t .tail)
   tail-either true s t h k = h

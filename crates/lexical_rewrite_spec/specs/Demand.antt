@@ -20,7 +20,7 @@ use Rattle.lexical_write_float_spec.specs.Write.{longestText}
 abbrev pub IsFloatOf : Format → TextFormat → List ℕ → Float → Type 0
 IsFloatOf f F t x = readIn f F t ≡ done x
 
--- the writer admits G, by its checks 1 to 6, and G has no digit limit
+-- the writer admits G: 1 to 6 and 16 refuse nothing, and G has no digit limit
 pub record Admits (G : TextFormat) : Type 0 where
   pub row : Pair
   pub passes : writingFormat (G .format) (G .options) ≡ done row

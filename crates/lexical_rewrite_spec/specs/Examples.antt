@@ -33,9 +33,9 @@ sameChained (writingRefusedAt i n p) (writingRefusedAt j m q) = eqb i j && (eqb 
 abbrev sameOutcome : Outcome → Chained → List ℕ → Bool
 sameOutcome o answer held = sameChained (o .answer) answer && sameBytes (o .bytes) held
 
--- the record of 2/2, mark "e": radix, base, exponent radix; six flags; four numbers of two bytes; point, mark
+-- the record of 2/2, mark "e": radix, base, exponent radix; six flags; four numbers of two bytes; width, point, mark
 abbrev record2 : List ℕ
-record2 = 2 ∷ 2 ∷ 10 ∷ (replicate {A = ℕ} 14 0 ++ 46 ∷ 101 ∷ [])
+record2 = 2 ∷ 2 ∷ 10 ∷ (replicate {A = ℕ} 14 0 ++ 1 ∷ 46 ∷ 101 ∷ [])
 
 -- so many bytes of 7, which no text has
 abbrev lent : ℕ → List ℕ
@@ -61,7 +61,7 @@ chains =
     ∷ []
 
 -- ---- records
--- 32/2, exponent radix 16, point ",", mark "^"; every flag on, Truncate, most and least 1,200, breaks 2,000 and -2,000
+-- 32/2, exponent radix 16, point ",", mark "^"; every flag on, Truncate, most and least 1,200, breaks 2,000 and -2,000, width 4
 abbrev fullest : TextFormat
 fullest = record {
   format = record {
@@ -78,6 +78,7 @@ fullest = record {
     «min_significant_digits» = 1200;
     «positive_exponent_break» = pos 2000;
     «negative_exponent_break» = negsuc 1999;
+    «exponent_width» = 4;
     «round_mode» = Truncate;
     «trim_floats» = true;
     exponent = 94;
@@ -91,5 +92,5 @@ recorded name G bytes = record { name = name; holds = sameBytes (recordOf G) byt
 unfoldable pub records : List Example
 records =
     recorded "2/2, mark e" (inPair 2 2 101) record2
-    ∷ recorded "every field at its end" fullest (32 ∷ 2 ∷ 16 ∷ 1 ∷ 1 ∷ 1 ∷ 1 ∷ 1 ∷ 1 ∷ 176 ∷ 4 ∷ 176 ∷ 4 ∷ 208 ∷ 7 ∷ 48 ∷ 248 ∷ 44 ∷ 94 ∷ [])
+    ∷ recorded "every field at its end" fullest (32 ∷ 2 ∷ 16 ∷ 1 ∷ 1 ∷ 1 ∷ 1 ∷ 1 ∷ 1 ∷ 176 ∷ 4 ∷ 176 ∷ 4 ∷ 208 ∷ 7 ∷ 48 ∷ 248 ∷ 4 ∷ 44 ∷ 94 ∷ [])
     ∷ []

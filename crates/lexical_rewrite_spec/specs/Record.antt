@@ -13,7 +13,7 @@ use Rattle.lexical_rewrite_spec.specs.declared.text_format.TextFormat.{T
 
 -- how many bytes a record has
 abbrev pub recordSize : ℕ
-recordSize = 19
+recordSize = 20
 
 -- bytes that are missing count as 0: a record that is cut off has no mark, and is refused
 abbrev pub byteAt : List ℕ → ℕ → ℕ
@@ -53,10 +53,11 @@ optionsOfRecord bytes = record {
   «min_significant_digits» = twoBytesAt bytes 11;
   «positive_exponent_break» = twosComplement (twoBytesAt bytes 13);
   «negative_exponent_break» = twosComplement (twoBytesAt bytes 15);
+  «exponent_width» = byteAt bytes 17;
   «round_mode» = modeAt bytes 8;
   «trim_floats» = flagAt bytes 7;
-  exponent = byteAt bytes 18;
-  «decimal_point» = byteAt bytes 17;
+  exponent = byteAt bytes 19;
+  «decimal_point» = byteAt bytes 18;
 }
 
 abbrev pub formatOfRecord : List ℕ → TextFormat
@@ -85,7 +86,7 @@ abbrev pub wordOf : ℤ → ℕ
 wordOf (pos n) = n
 wordOf (negsuc n) = 65535 - n
 
--- radix, base, exponent radix; six flags; four numbers of two bytes, little endian; point, mark
+-- radix, base, exponent radix; six flags; four numbers of two bytes, little endian; the exponent's width; point, mark
 unfoldable pub recordOf : TextFormat → List ℕ
 recordOf G =
     let F = G .format in
@@ -98,7 +99,7 @@ recordOf G =
     ∷ flagByte (F .«required_exponent_notation») ∷ flagByte (F .«no_exponent_notation») ∷ flagByte (F .«required_exponent_sign»)
     ∷ flagByte (F .«no_exponent_without_fraction») ∷ flagByte (o .«trim_floats») ∷ modeByte (o .«round_mode»)
     ∷ most % 256 ∷ most / 256 ∷ least % 256 ∷ least / 256 ∷ high % 256 ∷ high / 256 ∷ low % 256 ∷ low / 256
-    ∷ o .«decimal_point» ∷ o .exponent ∷ []
+    ∷ o .«exponent_width» ∷ o .«decimal_point» ∷ o .exponent ∷ []
 
 -- one behind the other
 unfoldable pub joined : List TextFormat → List ℕ
@@ -119,5 +120,6 @@ pub record FitsRecord (G : TextFormat) : Type 0 where
   pub least : G .options .«min_significant_digits» < 65536
   pub high-break : FitsWord (G .options .«positive_exponent_break»)
   pub low-break : FitsWord (G .options .«negative_exponent_break»)
+  pub width : G .options .«exponent_width» < 256
   pub point : G .options .«decimal_point» < 256
   pub mark : G .options .exponent < 256

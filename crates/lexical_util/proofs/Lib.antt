@@ -3,3 +3,4 @@ pub mod BitsLaws
 pub mod DigitLaws
 pub mod RadixLaws
 pub mod TableLaws
+pub mod WidthLaws

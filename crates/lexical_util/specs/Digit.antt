@@ -11,6 +11,13 @@ use Rattle.lexical_util.specs.declared.digit.DigitValue.the-variants.{Di
 unfoldable pub isRadix : ℕ → Bool
 isRadix r = eqb r 2 || (eqb r 4 || (eqb r 8 || (eqb r 10 || (eqb r 16 || eqb r 32))))
 
+-- a least width of digits is from 1 to 4
+abbrev pub greatestWidth : ℕ
+greatestWidth = 4
+
+unfoldable pub isWidth : ℕ → Bool
+isWidth w = leb 1 w && leb w greatestWidth
+
 -- the bits of a digit: b of radix 2 ^ b for 2, 4, 8, 16 and 32, and 0 for any other number
 unfoldable pub digitBits : ℕ → ℕ
 digitBits n = cond (eqb 2 n) 1 (cond (eqb 4 n) 2 (cond (eqb 8 n) 3 (cond (eqb 16 n) 4 (cond (eqb 32 n) 5 0))))

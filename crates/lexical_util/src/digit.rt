@@ -1,6 +1,6 @@
-// Radices, and the digit that a byte stands for.
+// Radices, least widths, and the digit that a byte stands for.
 ghost use mathlib.Core.Path.{_≡_};
-ghost use Rattle.lexical_util.specs.Digit.{digitValue, isRadix, digitBits, ofDigitValue};
+ghost use Rattle.lexical_util.specs.Digit.{digitValue, isRadix, isWidth, digitBits, ofDigitValue};
 
 pub enum DigitValue {
     Digit(u8),
@@ -26,6 +26,15 @@ pub fn is_radix(radix: u32) -> bool
         2 | 4 | 8 | 10 | 16 | 32 => true,
         _ => false,
     }
+}
+
+// A least width of digits is from 1 to 4: document 02, 2.2.
+const GREATEST_WIDTH: u32 = 4;
+
+pub fn is_width(width: u32) -> bool
+    ensures { λ r. ⌜ r ≡ isWidth width ⌝ }
+{
+    1 <= width && width <= GREATEST_WIDTH
 }
 
 // The bits of a digit: b of radix 2^b for 2, 4, 8, 16 and 32, and 0 for any other number.

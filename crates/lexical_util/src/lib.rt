@@ -8,3 +8,4 @@ pub use digit::DigitValue;
 pub use digit::digit_bits;
 pub use digit::digit_value;
 pub use digit::is_radix;
+pub use digit::is_width;

@@ -8,7 +8,7 @@ use borrow.Author.Tests.{lt-ltb, le-ltb}
 use lib.IntN.{ℤ, natAbs}
 use lib.ListN.{length, drop, length-append, length-replicate, length-drop}
 use lib.Seq.{length-take-le, take-all, drop-length}
-use Rattle.lexical_util.specs.Digit.{isRadix}
+use Rattle.lexical_util.specs.Digit.{isRadix, isWidth}
 use Rattle.lexical_write_float.specs.declared.plan.Plan.{Plan}
 use Rattle.lexical_write_float_spec.specs.declared.layout.Layout.{Layout}
 use Rattle.lexical_write_float_spec.specs.declared.layout.Layout.the-variants.{Scientific, Negative, Positive}
@@ -46,18 +46,18 @@ sign-few true plus = omega arith
 sign-few false true = omega arith
 sign-few false false = omega arith
 
-tail-few : (l : Layout) (mark : ℕ) (negative plus : Bool) (radix n : ℕ) → isRadix radix ≡ true → n < 8192 → length (tailText l mark negative plus radix n) ≤ 20
-tail-few Scientific mark negative plus radix n R h =
-    omega (arith, tail-length Scientific mark negative plus radix n refl, sign-few negative plus, few-digits radix n R h)
-tail-few Negative mark negative plus radix n R h = omega arith
-tail-few Positive mark negative plus radix n R h = omega arith
+tail-few : (l : Layout) (mark : ℕ) (negative plus : Bool) (radix width n : ℕ) → isRadix radix ≡ true → isWidth width ≡ true → n < 8192 → length (tailText l mark negative plus radix width n) ≤ 20
+tail-few Scientific mark negative plus radix width n R W h =
+    omega (arith, tail-length Scientific mark negative plus radix width n refl, sign-few negative plus, few-digits radix width n R W h)
+tail-few Negative mark negative plus radix width n R W h = omega arith
+tail-few Positive mark negative plus radix width n R W h = omega arith
 
 -- a text with its exponent, by the zeros of its plan
-pub text-few : (point : ℕ) (P : Plan) (D : List ℕ) (l : Layout) (mark : ℕ) (negative plus : Bool) (radix n : ℕ)
-    → P .leading ≤ length D → length D ≤ 64 → isRadix radix ≡ true → n < 8192
-    → length (planText point P D ++ tailText l mark negative plus radix n) ≤ P .filled + P .gap + P .padding + 85
-text-few point P D l mark negative plus radix n h few R small =
-    omega (arith, length-append (planText point P D) (tailText l mark negative plus radix n), plan-few point P D h, tail-few l mark negative plus radix n R small)
+pub text-few : (point : ℕ) (P : Plan) (D : List ℕ) (l : Layout) (mark : ℕ) (negative plus : Bool) (radix width n : ℕ)
+    → P .leading ≤ length D → length D ≤ 64 → isRadix radix ≡ true → isWidth width ≡ true → n < 8192
+    → length (planText point P D ++ tailText l mark negative plus radix width n) ≤ P .filled + P .gap + P .padding + 85
+text-few point P D l mark negative plus radix width n h few R W small =
+    omega (arith, length-append (planText point P D) (tailText l mark negative plus radix width n), plan-few point P D h, tail-few l mark negative plus radix width n R W small)
 
 -- ---- the plan of each layout
 drop-whole : (n : ℕ) (D : List ℕ) → length D ≡ n → drop n D ≡ []

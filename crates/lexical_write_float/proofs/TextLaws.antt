@@ -7,9 +7,9 @@ use native.Mathlib.Nat.{mod-eq-of-lt, lt-of-lt-of-le}
 use native.Mathlib.Omega.{arith}
 use lib.IntN.{ℤ, natAbs}
 use lib.Pow.{pow-mono, shl-lt}
-use Rattle.lexical_util.specs.Digit.{isRadix}
+use Rattle.lexical_util.specs.Digit.{isRadix, isWidth}
 use Rattle.lexical_exponent.specs.Exponent.{scale, place, isNegative, power}
-use Rattle.lexical_write_integer_spec.proofs.DigitsLaws.{length-numeral, count-pos, radix-above}
+use Rattle.lexical_write_integer_spec.proofs.NumeralLaws.{length-numeral}
 use Rattle.lexical_format.specs.declared.checks.CheckedFormat.{CheckedFormat}
 use Rattle.lexical_format.specs.declared.format.NumberFormat.{NumberFormat}
 use Rattle.lexical_format.specs.declared.options.Options.{Options}
@@ -28,6 +28,7 @@ pub record Known (F : NumberFormat) (o : Options) (c : CheckedFormat) : Type 0 w
   pub some-bits : 0 < c .b
   pub few-bits : c .b ≤ 5
   pub power-radix : isRadix (F .«exponent_radix») ≡ true
+  pub power-width : isWidth (o .«exponent_width») ≡ true
   pub few-least : least F o ≤ mostCount
   pub few-most : o .«max_significant_digits» ≤ mostCount
   pub low : c .«negative_exponent_break» .0 ≡ lowBreak o
@@ -43,6 +44,7 @@ known F o c P = rw (P .is-settled) at-row
           some-bits = W .reads .pair .some-bits;
           few-bits = W .reads .pair .few-bits;
           power-radix = W .reads .power;
+          power-width = W .width;
           few-least = W .least;
           few-most = W .most;
           low = refl;
@@ -59,7 +61,7 @@ shift-fits m k h l = mod-eq-of-lt (lt-of-lt-of-le (shift-below m k h l) (pow-mon
 pub counted-some : (D : Digits) → Counted D → 0 < D .count
 counted-some D C =
     let b = D .«bits_per_digit» in
-    omega (arith, C .count-is, length-numeral (2 ^ b) (D .value), count-pos (2 ^ b) (radix-above b (C .some-bits)) (D .value))
+    omega (arith, C .count-is, length-numeral (2 ^ b) 1 (D .value))
 
 -- ---- the text by what the code has of it: D, p, the digits so far and the layout
 module _ (F : NumberFormat) (o : Options) (c : CheckedFormat) (m : ℕ) (e : ℤ) (D : List ℕ) (p : ℤ) (soFar : ℕ) (l : Layout) where
@@ -71,7 +73,7 @@ module _ (F : NumberFormat) (o : Options) (c : CheckedFormat) (m : ℕ) (e : ℤ
 
   -- a plan's text and what stands behind it, layout by layout
   by-layout : (D : List ℕ) (p : ℤ) (soFar : ℕ) (l : Layout)
-      → bodyText F o p soFar l D ++ tailText l (o .exponent) (isNegative p) (F .«required_exponent_sign») (F .«exponent_radix») (power (c .b) (c .c) p) ≡ laidOut F o (checkedRow c) D p soFar l
+      → bodyText F o p soFar l D ++ tailText l (o .exponent) (isNegative p) (F .«required_exponent_sign») (F .«exponent_radix») (o .«exponent_width») (power (c .b) (c .c) p) ≡ laidOut F o (checkedRow c) D p soFar l
   by-layout D p soFar Scientific = ap (λ (t : List ℕ). scientific F o D ++ t) (power-is F o (checkedRow c) p)
   by-layout D p soFar Negative = append-nil (negative F o D p)
   by-layout D p soFar Positive = append-nil (positive F o D (natAbs p + 1) soFar)
@@ -81,5 +83,5 @@ module _ (F : NumberFormat) (o : Options) (c : CheckedFormat) (m : ℕ) (e : ℤ
   laid h = rw (sym (h .layout-is), h .so-far-is, h .digits-are, h .place-is) refl
 
   pub laid-text : IsLaid → (negative : Bool) (n : ℕ) → negative ≡ isNegative p → n ≡ power (c .b) (c .c) p
-      → bodyText F o p soFar l D ++ tailText l (o .exponent) negative (F .«required_exponent_sign») (F .«exponent_radix») n ≡ text F o (checkedRow c) m e
+      → bodyText F o p soFar l D ++ tailText l (o .exponent) negative (F .«required_exponent_sign») (F .«exponent_radix») (o .«exponent_width») n ≡ text F o (checkedRow c) m e
   laid-text h negative n e k = rw (e, k) (by-layout D p soFar l ∙ laid h)

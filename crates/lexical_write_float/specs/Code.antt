@@ -55,7 +55,7 @@ checkedRow checked = pair 0 0 (checked .b) (checked .c)
 -- ---- D, and a text by its plan
 -- D by the number that it spells
 abbrev pub digitsOf : Digits → List ℕ
-digitsOf D = numeral (2 ^ D .«bits_per_digit») (D .value)
+digitsOf D = numeral (2 ^ D .«bits_per_digit») 1 (D .value)
 
 pub record Counted (D : Digits) : Type 0 where
   pub some-bits : 0 < D .«bits_per_digit»
@@ -99,14 +99,14 @@ bodyText F o p soFar Positive D = positive F o D (placesBeforePoint p) soFar
 abbrev pub signText : Bool → Bool → List ℕ
 signText negative plus = cond negative (45 ∷ []) (cond plus (43 ∷ []) [])
 
-unfoldable pub powerText : ℕ → Bool → Bool → ℕ → ℕ → List ℕ
-powerText mark negative plus radix n = (mark ∷ []) ++ (signText negative plus ++ numeral radix n)
+unfoldable pub powerText : ℕ → Bool → Bool → ℕ → ℕ → ℕ → List ℕ
+powerText mark negative plus radix width n = (mark ∷ []) ++ (signText negative plus ++ numeral radix width n)
 
 -- only the scientific layout has one
-abbrev pub tailText : Layout → ℕ → Bool → Bool → ℕ → ℕ → List ℕ
-tailText Scientific mark negative plus radix n = powerText mark negative plus radix n
-tailText Negative mark negative plus radix n = []
-tailText Positive mark negative plus radix n = []
+abbrev pub tailText : Layout → ℕ → Bool → Bool → ℕ → ℕ → ℕ → List ℕ
+tailText Scientific mark negative plus radix width n = powerText mark negative plus radix width n
+tailText Negative mark negative plus radix width n = []
+tailText Positive mark negative plus radix width n = []
 
 -- ---- the text of a magnitude: of the float that has it
 abbrev pub magnitudeText : NumberFormat → Options → CheckedFormat → Magnitude → List ℕ

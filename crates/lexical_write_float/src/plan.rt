@@ -6,7 +6,7 @@ ghost use Prim.Native.Nat.{ℕ, _+_, _≤_, _<_};
 ghost use lib.Dec.{leb};
 ghost use lib.ListN.{length};
 ghost use Rattle.lexical_util.specs.Answer.{done, held};
-ghost use Rattle.lexical_util.specs.Digit.{isRadix};
+ghost use Rattle.lexical_util.specs.Digit.{isRadix, isWidth};
 ghost use Rattle.lexical_buffer.specs.Put.{Puts};
 ghost use Rattle.lexical_write_float.specs.Code.{Counted, digitsOf, Small, fractionText, planText, tailText};
 use crate::pieces::put_digits;
@@ -89,11 +89,12 @@ fn planned_length(
     exponent: BaseExponent,
     plus: bool,
     radix: u32,
+    width: u32,
 ) -> usize
-    requires { ⌜ (count ≤ 64) × Small count plan × (isRadix radix ≡ true) × (exponent .1 < 8192) ⌝ }
-    ensures { λ r. ⌜ ((D : List ℕ) (point mark : ℕ) → length D ≡ count → r ≡ length (planText point plan D ++ tailText layout mark (exponent .0) plus radix (exponent .1))) ⌝ }
+    requires { ⌜ (count ≤ 64) × Small count plan × (isRadix radix ≡ true) × (isWidth width ≡ true) × (exponent .1 < 8192) ⌝ }
+    ensures { λ r. ⌜ ((D : List ℕ) (point mark : ℕ) → length D ≡ count → r ≡ length (planText point plan D ++ tailText layout mark (exponent .0) plus radix width (exponent .1))) ⌝ }
 {
-    let tail = exponent_length(layout, exponent, plus, radix);
+    let tail = exponent_length(layout, exponent, plus, radix, width);
     plan_length(count, plan) + tail
 }
 
@@ -106,14 +107,15 @@ fn has_room(
     exponent: BaseExponent,
     plus: bool,
     radix: u32,
+    width: u32,
 ) -> bool
-    requires { ⌜ (count ≤ 64) × Small count plan × (isRadix radix ≡ true) × (exponent .1 < 8192) ⌝ }
-    ensures { λ r. ⌜ ((D : List ℕ) (point mark : ℕ) → length D ≡ count → r ≡ leb (length (planText point plan D ++ tailText layout mark (exponent .0) plus radix (exponent .1))) room) ⌝ }
+    requires { ⌜ (count ≤ 64) × Small count plan × (isRadix radix ≡ true) × (isWidth width ≡ true) × (exponent .1 < 8192) ⌝ }
+    ensures { λ r. ⌜ ((D : List ℕ) (point mark : ℕ) → length D ≡ count → r ≡ leb (length (planText point plan D ++ tailText layout mark (exponent .0) plus radix width (exponent .1))) room) ⌝ }
 {
     if plan.filled + plan.gap + plan.padding + 85 <= room {
         return true;
     }
-    planned_length(count, plan, layout, exponent, plus, radix) <= room
+    planned_length(count, plan, layout, exponent, plus, radix, width) <= room
 }
 
 // A planned text, and the exponent where the layout has one, written if there is room for it. The answer is its length either way.
@@ -126,16 +128,17 @@ pub(crate) fn write_plan(
     options: Options,
     buffer: &mut [u8],
 ) -> usize
-    requires { ⌜ Counted digits × Small (digits .count) plan × (isRadix (format .«exponent_radix») ≡ true) × (exponent .1 < 8192) ⌝ }
-    ensures { λ r. ⌜ r ≡ length (planText (options .«decimal_point») plan (digitsOf digits) ++ tailText layout (options .exponent) (exponent .0) (format .«required_exponent_sign») (format .«exponent_radix») (exponent .1)) ⌝ }
-    ensures { λ _. ⌜ now (buffer .exit) ≡ held (done (planText (options .«decimal_point») plan (digitsOf digits) ++ tailText layout (options .exponent) (exponent .0) (format .«required_exponent_sign») (format .«exponent_radix») (exponent .1))) (now (buffer .entry)) ⌝ }
+    requires { ⌜ Counted digits × Small (digits .count) plan × (isRadix (format .«exponent_radix») ≡ true) × (isWidth (options .«exponent_width») ≡ true) × (exponent .1 < 8192) ⌝ }
+    ensures { λ r. ⌜ r ≡ length (planText (options .«decimal_point») plan (digitsOf digits) ++ tailText layout (options .exponent) (exponent .0) (format .«required_exponent_sign») (format .«exponent_radix») (options .«exponent_width») (exponent .1)) ⌝ }
+    ensures { λ _. ⌜ now (buffer .exit) ≡ held (done (planText (options .«decimal_point») plan (digitsOf digits) ++ tailText layout (options .exponent) (exponent .0) (format .«required_exponent_sign») (format .«exponent_radix») (options .«exponent_width») (exponent .1))) (now (buffer .entry)) ⌝ }
 {
     let plus = format.required_exponent_sign;
     let radix = format.exponent_radix;
+    let width = options.exponent_width;
     let count = digits.count;
     let room = buffer.len();
-    if !has_room(room, count, plan, layout, exponent, plus, radix) {
-        return planned_length(count, plan, layout, exponent, plus, radix);
+    if !has_room(room, count, plan, layout, exponent, plus, radix, width) {
+        return planned_length(count, plan, layout, exponent, plus, radix, width);
     }
     let mark = put_plan(buffer, digits, plan, options.decimal_point);
     write_exponent(
@@ -146,5 +149,6 @@ pub(crate) fn write_plan(
         exponent,
         plus,
         radix,
+        width,
     )
 }

@@ -3,7 +3,7 @@ ghost use mathlib.Core.Path.{_≡_};
 ghost use mathlib.Core.Bool.{true};
 ghost use Prim.Native.Nat.{ℕ, _+_, _-_, _≤_, _<_};
 ghost use lib.ListN.{length};
-ghost use Rattle.lexical_util.specs.Digit.{isRadix};
+ghost use Rattle.lexical_util.specs.Digit.{isRadix, isWidth};
 ghost use Rattle.lexical_write_float_spec.specs.Text.{isScientific, layoutOf};
 ghost use Rattle.lexical_format.specs.declared.options.Options.{Options};
 ghost use Rattle.lexical_format.specs.Format.{lowBreak, highBreak};
@@ -86,21 +86,22 @@ pub(crate) fn exponent_length(
     exponent: BaseExponent,
     plus: bool,
     radix: u32,
+    width: u32,
 ) -> usize
-    requires { ⌜ (isRadix radix ≡ true) × (exponent .1 < 8192) ⌝ }
-    ensures { λ r. ⌜ ((mark : ℕ) → r ≡ length (tailText layout mark (exponent .0) plus radix (exponent .1))) × (r ≤ 20) ⌝ }
+    requires { ⌜ (isRadix radix ≡ true) × (isWidth width ≡ true) × (exponent .1 < 8192) ⌝ }
+    ensures { λ r. ⌜ ((mark : ℕ) → r ≡ length (tailText layout mark (exponent .0) plus radix width (exponent .1))) × (r ≤ 20) ⌝ }
 {
     match layout {
         Layout::Scientific => {
             let sign = sign_length(exponent.0, plus);
-            1 + sign + lexical_write_integer::digit_count(exponent.1, radix)
+            1 + sign + lexical_write_integer::digit_count(exponent.1, radix, width)
         }
         Layout::Negative => 0,
         Layout::Positive => 0,
     }
 }
 
-// Mark, sign, and the magnitude in the exponent's radix, in the scientific layout.
+// Mark, sign, and the magnitude in the exponent's radix and width, in the scientific layout.
 pub(crate) fn write_exponent(
     buffer: &mut [u8],
     at: usize,
@@ -109,15 +110,16 @@ pub(crate) fn write_exponent(
     exponent: BaseExponent,
     plus: bool,
     radix: u32,
+    width: u32,
 ) -> usize
-    requires { ⌜ (isRadix radix ≡ true) × (at + length (tailText layout mark (exponent .0) plus radix (exponent .1)) ≤ length (now buffer)) ⌝ }
-    ensures { λ r. ⌜ Puts (now (buffer .entry)) at (tailText layout mark (exponent .0) plus radix (exponent .1)) r (now (buffer .exit)) ⌝ }
+    requires { ⌜ (isRadix radix ≡ true) × (isWidth width ≡ true) × (at + length (tailText layout mark (exponent .0) plus radix width (exponent .1)) ≤ length (now buffer)) ⌝ }
+    ensures { λ r. ⌜ Puts (now (buffer .entry)) at (tailText layout mark (exponent .0) plus radix width (exponent .1)) r (now (buffer .exit)) ⌝ }
 {
     match layout {
         Layout::Scientific => {
             let sign = put_byte(buffer, at, mark);
             let magnitude = write_exponent_sign(buffer, sign, exponent.0, plus);
-            put_number(buffer, magnitude, exponent.1, radix)
+            put_number(buffer, magnitude, exponent.1, radix, width)
         }
         Layout::Negative => at,
         Layout::Positive => at,

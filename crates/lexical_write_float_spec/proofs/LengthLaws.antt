@@ -9,11 +9,13 @@ use lib.Dec.{ltb, leb·suc-zero}
 use lib.IntN.{ℤ, pos, negsuc, natAbs}
 use lib.Signed.{ltZ}
 use lib.ListN.{length, take, drop, length-append, length-replicate, length-take, length-drop}
-use Rattle.lexical_util.specs.Digit.{isRadix}
+use Rattle.lexical_util.specs.Digit.{isRadix, isWidth}
 use Rattle.lexical_exponent.specs.Exponent.{scale, place, power}
 use Rattle.lexical_util.proofs.RadixLaws.{radix-bounds}
+use Rattle.lexical_util.proofs.WidthLaws.{width-bounds}
 use Rattle.lexical_write_integer_spec.specs.Digits.{numeral}
-use Rattle.lexical_write_integer_spec.proofs.DigitsLaws.{count-le, length-numeral}
+use Rattle.lexical_write_integer_spec.proofs.DigitsLaws.{count-le}
+use Rattle.lexical_write_integer_spec.proofs.NumeralLaws.{length-numeral}
 use Rattle.lexical_format.specs.declared.format.Pair.{Pair}
 use Rattle.lexical_format.specs.declared.format.NumberFormat.{NumberFormat}
 use Rattle.lexical_format.specs.declared.options.Options.{Options}
@@ -27,11 +29,11 @@ use Rattle.lexical_write_float_spec.proofs.RangeLaws.{place-near}
 use Rattle.lexical_write_float_spec.specs.Write.{longestText}
 use Rattle.lexical_format.specs.Format.{mostCount}
 
--- a magnitude below 2 ^ 13 has at most 13 digits in any radix
-pub few-digits : (radix n : ℕ) → isRadix radix ≡ true → n < 8192 → length (numeral radix n) ≤ 13
-few-digits radix n R h =
+-- a magnitude below 2 ^ 13 has at most 13 digits in any radix, and in any width
+pub few-digits : (radix width n : ℕ) → isRadix radix ≡ true → isWidth width ≡ true → n < 8192 → length (numeral radix width n) ≤ 13
+few-digits radix width n R W h =
     let q = radix-bounds radix R in
-    omega (arith, length-numeral radix n, count-le radix (q .0) 12 n (lt-of-lt-of-le h (pow-le-pow-left (q .0) 13)))
+    omega (arith, length-numeral radix width n, width-bounds width W .1, count-le radix (q .0) 12 n (lt-of-lt-of-le h (pow-le-pow-left (q .0) 13)))
 
 -- p * b / c is below 2 ^ 13
 pub power-few : (b c : ℕ) (p : ℤ) → b ≤ 5 → natAbs p ≤ 1074 → power b c p < 8192
@@ -83,7 +85,7 @@ module _ (F : NumberFormat) (o : Options) (row : Pair) (W : Writable F o row) wh
   unfolding exponentText
   exponent-length p h =
       let R = W .reads in
-      simp length-append (omega (arith, sign-length p, few-digits (F .«exponent_radix») (power (row .b) (row .c) p) (R .power) (power-few (row .b) (row .c) p (R .pair .few-bits) h)))
+      simp length-append (omega (arith, sign-length p, few-digits (F .«exponent_radix») (o .«exponent_width») (power (row .b) (row .c) p) (R .power) (W .width) (power-few (row .b) (row .c) p (R .pair .few-bits) h)))
 
   -- ---- the whole text
   laid-length : (D : List ℕ) (soFar : ℕ) (s : ℤ) → length D ≤ 64 → Between 1074 1024 s → length (laidOut F o row D (place (row .b) s) soFar (layoutOf F o s)) ≤ longestText

@@ -14,7 +14,8 @@ use Rattle.lexical_exponent.specs.Exponent.{scale, place, modulo}
 use Rattle.lexical_exponent.proofs.ExponentLaws.{scale-is, modulo-lt}
 use Rattle.lexical_exponent.proofs.PowerLaws.{size-more, size-pos}
 use Rattle.lexical_write_integer_spec.specs.Digits.{digits, numeral}
-use Rattle.lexical_write_integer_spec.proofs.DigitsLaws.{radix-above, count-bits, count-lt, first-pos, length-numeral}
+use Rattle.lexical_write_integer_spec.proofs.DigitsLaws.{radix-above, count-bits, count-lt, first-pos}
+use Rattle.lexical_write_integer_spec.proofs.NumeralLaws.{length-one}
 use Rattle.lexical_write_float_spec.specs.Value.{Value, normal, exactDigits}
 use Rattle.lexical_write_float_spec.proofs.Integers.{floor-modulo, floor-add}
 
@@ -127,15 +128,15 @@ unfolding exactDigits
 length-exact b m e B M =
     let r = modulo e b in
     let p = size-pos m M in
-    length-numeral (2 ^ b) (m * 2 ^ r) ∙ count-bits b (m * 2 ^ r) B (mul-pos M (pow-pos r))
+    length-one (2 ^ b) (m * 2 ^ r) ∙ count-bits b (m * 2 ^ r) B (mul-pos M (pow-pos r))
     ∙ ap (λ (k : ℕ). suc (k / b)) (ap (λ (k : ℕ). k - 1) (size-shift m r M) ∙ (let z : size m + r - 1 ≡ size m - 1 + r = omega arith in z))
 
 -- of a mantissa below 2 ^ 54 at most 64
 pub exact-few : (b m : ℕ) (e : ℤ) → 0 < b → b ≤ 5 → m < 2 ^ 54 → length (exactDigits b m e) ≤ 64
 exact-few b zero e B K h = unfold exactDigits in go (zero * 2 ^ modulo e b) (zero-mul (2 ^ modulo e b))
   where
-    go : (n : ℕ) → n ≡ 0 → length (numeral (2 ^ b) n) ≤ 64
-    go n z = omega (arith, length-numeral (2 ^ b) n, count-lt (2 ^ b) n (rw z (pow-pos b)))
+    go : (n : ℕ) → n ≡ 0 → length (numeral (2 ^ b) 1 n) ≤ 64
+    go n z = omega (arith, length-one (2 ^ b) n, count-lt (2 ^ b) n (rw z (pow-pos b)))
 exact-few b (suc m) e B K h =
     let s = size-le (suc m) 54 h in
     let r = modulo-lt e b B in

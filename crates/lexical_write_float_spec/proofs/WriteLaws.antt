@@ -2,6 +2,7 @@
 use Prim.Native.Nat.{ℕ, _*_, _%_, _^_, _≤_}
 use mathlib.Core.Path.{_≡_, refl, sym, _∙_}
 use mathlib.Core.Bool.{Bool, true, false}
+use mathlib.Core.List.{map}
 use native.Mathlib.Omega.{arith}
 use borrow.Author.Tests.{ltb-true, ltb-false}
 use lib.Dec.{T, ltb}
@@ -12,8 +13,9 @@ use Rattle.lexical_util.specs.Answer.{Answer, done, refused, andThen}
 use Rattle.lexical_util.specs.Digit.{digitByte}
 use Rattle.lexical_util.proofs.AnswerLaws.{refused-done, done-same}
 use Rattle.lexical_util.proofs.DigitLaws.{byte-figure, byte-capital}
-use Rattle.lexical_write_integer_spec.specs.Digits.{digits, numeral}
-use Rattle.lexical_write_integer_spec.proofs.DigitsLaws.{radix-above, last-byte}
+use Rattle.lexical_write_integer_spec.specs.Digits.{digits}
+use Rattle.lexical_write_integer_spec.proofs.DigitsLaws.{radix-above}
+use Rattle.lexical_write_integer_spec.proofs.NumeralLaws.{numeral-one, last-byte}
 use Rattle.lexical_format.specs.declared.format.Pair.{Pair}
 use Rattle.lexical_format.specs.declared.format.NumberFormat.{NumberFormat}
 use Rattle.lexical_format.specs.declared.options.Options.{Options}
@@ -40,10 +42,11 @@ byte-zero d e = go (ltb d 10) refl
     go false p = absurd (omega (arith, byte-capital d (ltb-false d 10 p)))
 
 pub first-digit : FirstDigit
-unfolding exactDigits numeral
+unfolding exactDigits
 first-digit b m e B M h =
     let n = m * 2 ^ modulo e b in
-    let z : getD (digits (2 ^ b) n) 0 0 ≡ 0 = byte-zero (getD (digits (2 ^ b) n) 0 0) (sym (List·getD-map digitByte (digits (2 ^ b) n) 0 0) ∙ (unfold digitByte in h)) in
+    let bytes : getD (map digitByte (digits (2 ^ b) n)) 0 (digitByte 0) ≡ 48 = unfold digitByte in (rw (numeral-one (2 ^ b) n) at h) in
+    let z : getD (digits (2 ^ b) n) 0 0 ≡ 0 = byte-zero (getD (digits (2 ^ b) n) 0 0) (sym (List·getD-map digitByte (digits (2 ^ b) n) 0 0) ∙ bytes) in
     omega (arith, first-is b m e B M)
 
 pub last-digit : LastDigit

@@ -4,7 +4,7 @@ use Prim.Native.String.{String}
 use mathlib.Core.Bool.{Bool, true, false, _&&_}
 use mathlib.Core.List.{List, [], _∷_, _++_}
 use lib.Dec.{eqb}
-use lib.IntN.{pos}
+use lib.IntN.{ℤ, pos}
 use lib.ListN.{length, drop, replicate}
 use lib.Ieee.{Float, binary32, binary64, round}
 use Rattle.lexical_util.specs.Answer.{Answer, done, refused, written, held}
@@ -30,17 +30,25 @@ formatWith radix base power required forbidden signed fraction = record {
 abbrev pub format : ℕ → ℕ → ℕ → Bool → Bool → NumberFormat
 format radix base power required signed = formatWith radix base power required false signed false
 
-abbrev pub options : ℕ → ℕ → RoundMode → Bool → Options
-options least most mode trim = record {
+abbrev optionsWith : ℕ → ℕ → ℤ → ℕ → RoundMode → Bool → Options
+optionsWith least most low width mode trim = record {
   «max_significant_digits» = most;
   «min_significant_digits» = least;
   «positive_exponent_break» = pos 0;
-  «negative_exponent_break» = pos 0;
+  «negative_exponent_break» = low;
+  «exponent_width» = width;
   «round_mode» = mode;
   «trim_floats» = trim;
   exponent = 94;
   «decimal_point» = 46;
 }
+
+abbrev pub options : ℕ → ℕ → RoundMode → Bool → Options
+options least most mode trim = optionsWith least most (pos 0) 1 mode trim
+
+-- with an exponent's least width
+abbrev wide : ℕ → Options
+wide width = optionsWith 0 0 (pos 0) width Round false
 
 abbrev plain : ℕ → ℕ → ℕ → NumberFormat
 plain radix base power = format radix base power false false
@@ -126,6 +134,22 @@ further =
     ∷ is "16/16/16: 1.5, least 4" (plain 16 16 16) (options 4 0 Round false) (double 3 2) "1.800"
     ∷ is "16/16/16: 2^-5, least 4" (plain 16 16 16) (options 4 0 Round false) (double 1 (2 ^ 5)) "0.08000"
     ∷ is "limit, 16/16/16: 2.5, one digit, Truncate" (plain 16 16 16) (options 0 1 Truncate false) (double 5 2) "2.0"
+    ∷ []
+
+-- document 02, 2.2: an exponent's least width, which no exponent of more digits has, and no digits but an exponent's; 16 after 6 and before 7
+unfoldable pub widths : List Example
+widths =
+    is "16/2/10: 1,024, width 2" (plain 16 2 10) (wide 2) (double 1024 1) "4.0^08"
+    ∷ is "16/2/10: 2^-6, width 3" (plain 16 2 10) (wide 3) (double 1 (2 ^ 6)) "4.0^-008"
+    ∷ is "16/2/10: 6,144, width 2" (plain 16 2 10) (wide 2) (double 6144 1) "1.8^12"
+    ∷ is "16/16/16: 1,024, sign, width 4" (format 16 16 16 false true) (wide 4) (double 1024 1) "4.0^+0002"
+    ∷ is "2/2/2: 0, exponent required, width 4" (format 2 2 2 true false) (wide 4) (double 0 1) "0.0^0000"
+    ∷ is "32/32/10: 2^-1074, width 2" (plain 32 32 10) (wide 2) (double 1 (2 ^ 1074)) "2.0^-215"
+    ∷ is "16/16/16: 0.5, width 4" (plain 16 16 16) (wide 4) (double 1 2) "0.8"
+    ∷ record { name = "width 0"; holds = refuses (plain 2 2 2) (wide 0) (double 0 1) (lent 20) 16 }
+    ∷ record { name = "width 5"; holds = refuses (plain 2 2 2) (wide 5) (double 0 1) (lent 20) 16 }
+    ∷ record { name = "6 before 16"; holds = refuses (plain 2 2 2) (optionsWith 0 0 (pos 1) 0 Round false) (double 0 1) (lent 20) 6 }
+    ∷ record { name = "16 before 7"; holds = refuses (plain 2 2 2) (wide 0) (round binary64 true 0 1) (lent 20) 16 }
     ∷ []
 
 -- the longest text, with a digit limit and without: so many bytes are enough, and one less is refused

@@ -1,4 +1,4 @@
--- The text of a value under a format: document 01, "Layout". The value m * 2 ^ e is in normal form. Definitions only.
+-- The text of a value under a format: document 01, "Layout", and document 02, 2.2. The value m * 2 ^ e is in normal form. Definitions only.
 use Prim.Native.Nat.{ℕ, zero, suc, _+_, _-_, max}
 use mathlib.Core.Bool.{Bool, not, cond, _&&_, _||_}
 use mathlib.Core.List.{List, [], _∷_, _++_}
@@ -54,9 +54,9 @@ module _ (F : NumberFormat) (o : Options) where
   exponentSign (negsuc n) = 45 ∷ []
   exponentSign (pos n) = cond (F .«required_exponent_sign») (43 ∷ []) []
 
-  -- and the magnitude of p * b / c in exponent radix
+  -- and the magnitude of p * b / c in exponent radix, with zeros in front up to the exponent's width
   unfoldable pub exponentText : Pair → ℤ → List ℕ
-  exponentText row p = o .exponent ∷ (exponentSign p ++ numeral (F .«exponent_radix») (power (row .b) (row .c) p))
+  exponentText row p = o .exponent ∷ (exponentSign p ++ numeral (F .«exponent_radix») (o .«exponent_width») (power (row .b) (row .c) p))
 
   -- ---- negative: "0", point, -p-1 zeros, D, zeros up to the least count
   unfoldable pub negative : List ℕ → ℤ → List ℕ

@@ -24,6 +24,6 @@ normal zero e = record { m = 0; e = pos 0 }
 normal (suc n) e = let t = trailingZeros (size (suc n)) (suc n) in record { m = suc n / 2 ^ t; e = e +ℤ pos t }
 
 -- D of a value in normal form: the exact digits from the first nonzero one to the last nonzero one, "0" for zero.
--- The last one's place is floor (e / b), so D spells m * 2 ^ (e mod b); as m is odd, D ends in no zero.
+-- The last one's place is floor (e / b), so D spells m * 2 ^ (e mod b); as m is odd, D ends in no zero, and in width 1 it begins with none.
 unfoldable pub exactDigits : ℕ → ℕ → ℤ → List ℕ
-exactDigits b m e = numeral (2 ^ b) (m * 2 ^ modulo e b)
+exactDigits b m e = numeral (2 ^ b) 1 (m * 2 ^ modulo e b)

@@ -31,7 +31,7 @@ module _ (F : NumberFormat) (o : Options) where
   unfoldable pub floatText : Float → Pair → Answer (List ℕ)
   floatText x row = checked ((7, not (isPlain x)) ∷ []) (done (limitedText row (absolute x .m) (absolute x .e)))
 
-  -- 1 to 6, 7
+  -- 1 to 6, 16, 7
   unfoldable pub writeText : Float → Answer (List ℕ)
   writeText x = andThen (writingFormat F o) (floatText x)
 

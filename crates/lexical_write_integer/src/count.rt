@@ -1,6 +1,6 @@
 // Derived from lexical-write-integer/src/digit_count.rs, changed: u64 alone, the radix by its bits, a test for 0 instead of `x | 1`.
 ghost use mathlib.Core.Path.{_≡_};
-ghost use Prim.Native.Nat.{_-_};
+ghost use Prim.Native.Nat.{_-_, max};
 ghost use lib.Ieee.{size};
 ghost use Rattle.lexical_write_integer_spec.specs.Write.{digitCount, digitLog};
 use crate::decimal::decimal_count;
@@ -26,14 +26,22 @@ pub fn digit_log(value: u64, bits_per_digit: u32) -> usize
     (quotient(fast_log2(value) as u64, bits_per_digit) + 1) as usize
 }
 
-// How many digits value has in a radix, and 0 in a number that is none.
-pub fn digit_count(value: u64, radix: u32) -> usize
-    ensures { λ r. ⌜ r ≡ digitCount value radix ⌝ }
+// A count, or the least width where that is greater.
+fn at_least(width: u32, count: usize) -> usize
+    ensures { λ r. ⌜ r ≡ max width count ⌝ }
+{
+    let least = width as usize;
+    if count < least { least } else { count }
+}
+
+// How many digits value has in a radix, at least the width, and 0 in a number that is no radix.
+pub fn digit_count(value: u64, radix: u32, width: u32) -> usize
+    ensures { λ r. ⌜ r ≡ digitCount value radix width ⌝ }
 {
     if radix == 10 {
-        decimal_count(value)
+        at_least(width, decimal_count(value))
     } else if lexical_util::is_radix(radix) {
-        digit_log(value, digit_bits(radix))
+        at_least(width, digit_log(value, digit_bits(radix)))
     } else {
         0
     }

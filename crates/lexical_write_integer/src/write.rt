@@ -1,4 +1,4 @@
-// Derived from lexical-write-integer/src/write.rs, changed: the radix is an argument, and refusals stand for assertions.
+// Derived from lexical-write-integer/src/write.rs, changed: radix and least width are arguments, and refusals stand for assertions.
 ghost use mathlib.Core.Path.{_≡_};
 ghost use mathlib.Core.Bool.{true};
 ghost use mathlib.Core.List.{_++_};
@@ -29,26 +29,30 @@ fn write_digits(value: u64, base: u32, count: usize, buffer: &mut [u8])
     }
 }
 
-// The digits of value in the radix, or a refusal, which leaves every byte as it was.
-pub fn write_integer(value: u64, radix: u32, buffer: &mut [u8]) -> Written
-    ensures { λ r. ⌜ ofWritten r ≡ written (digitsText value radix) (now (buffer .entry)) ⌝ }
-    ensures { λ _. ⌜ now (buffer .exit) ≡ held (digitsText value radix) (now (buffer .entry)) ⌝ }
+// The digits of value in the radix, with zeros in front up to the least width; or a refusal, which leaves every byte as it was.
+pub fn write_integer(value: u64, radix: u32, width: u32, buffer: &mut [u8]) -> Written
+    ensures { λ r. ⌜ ofWritten r ≡ written (digitsText value radix width) (now (buffer .entry)) ⌝ }
+    ensures { λ _. ⌜ now (buffer .exit) ≡ held (digitsText value radix width) (now (buffer .entry)) ⌝ }
 {
-    if lexical_util::is_radix(radix) {
-        let count = digit_count(value, radix);
-        if count <= buffer.len() {
-            write_digits(value, radix, count, buffer);
-            Written::Length(count)
-        } else {
-            Written::Refused(Refusal {
-                number: 8,
-                place: 0,
-            })
-        }
-    } else {
-        Written::Refused(Refusal {
+    if !lexical_util::is_radix(radix) {
+        return Written::Refused(Refusal {
             number: 2,
             place: 0,
-        })
+        });
     }
+    if !lexical_util::is_width(width) {
+        return Written::Refused(Refusal {
+            number: 16,
+            place: 0,
+        });
+    }
+    let count = digit_count(value, radix, width);
+    if count > buffer.len() {
+        return Written::Refused(Refusal {
+            number: 8,
+            place: 0,
+        });
+    }
+    write_digits(value, radix, count, buffer);
+    Written::Length(count)
 }

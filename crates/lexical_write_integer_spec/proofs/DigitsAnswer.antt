@@ -1,47 +1,58 @@
 -- What the digits calls answer and leave in the lent bytes, in each of their cases. Assumes nothing.
-use Prim.Native.Nat.{ℕ, _^_, _≤_, _<_}
-use mathlib.Core.Path.{_≡_, refl, sym}
+use Prim.Native.Nat.{ℕ, _^_, _≤_, _<_, max}
+use mathlib.Core.Path.{_≡_, refl, sym, ap, _∙_}
 use mathlib.Core.Bool.{true, false}
 use mathlib.Core.List.{List, _++_}
 use borrow.Author.Tests.{lt-ltb}
 use lib.ListN.{length, drop}
 use Rattle.lexical_util.specs.Answer.{done, refused, written, held}
-use Rattle.lexical_util.specs.Digit.{isRadix}
+use Rattle.lexical_util.specs.Digit.{isRadix, isWidth}
 use Rattle.lexical_util.proofs.AnswerLaws.{text-fits, text-short}
 use Rattle.lexical_util.proofs.RadixLaws.{radix-bounds}
-use Rattle.lexical_write_integer_spec.specs.Digits.{digits}
+use Rattle.lexical_write_integer_spec.specs.Digits.{digits, numeral}
 use Rattle.lexical_write_integer_spec.specs.Write.{lastNumeral, digitsText, digitCount, digitLog}
+use Rattle.lexical_write_integer_spec.proofs.NumeralLaws.{length-numeral}
 use Rattle.lexical_write_integer_spec.proofs.LastLaws.{length-last, numeral-last}
 
 -- ---- how many
-pub count-known : (x r : ℕ) → isRadix r ≡ true → digitCount x r ≡ length (digits r x)
+pub count-known : (x r w : ℕ) → isRadix r ≡ true → digitCount x r w ≡ length (numeral r w x)
 unfolding digitCount
-count-known x r h = rw h
+count-known x r w h = rw h
 
-pub count-decimal : (x : ℕ) → digitCount x 10 ≡ length (digits 10 x)
+pub count-widened : (x r w n : ℕ) → isRadix r ≡ true → n ≡ length (digits r x) → digitCount x r w ≡ max w n
+count-widened x r w n h e = count-known x r w h ∙ length-numeral r w x ∙ rw e
+
+pub count-decimal : (x w : ℕ) → digitCount x 10 w ≡ length (numeral 10 w x)
 unfolding isRadix
-count-decimal x = count-known x 10 refl
+count-decimal x w = count-known x 10 w refl
 
-pub count-unknown : (x r : ℕ) → isRadix r ≡ false → digitCount x r ≡ 0
+pub count-unknown : (x r w : ℕ) → isRadix r ≡ false → digitCount x r w ≡ 0
 unfolding digitCount
-count-unknown x r h = rw h
+count-unknown x r w h = rw h
 
 pub log-known : (x b : ℕ) → 0 < b → digitLog x b ≡ length (digits (2 ^ b) x)
 unfolding digitLog
 log-known x b h = rw (lt-ltb 0 b h)
 
 -- ---- which
-module _ (x r n : ℕ) (out : List ℕ) (known : isRadix r ≡ true) (count : n ≡ digitCount x r) where
-  asked : digitsText x r ≡ done (lastNumeral r n x)
-  unfolding digitsText
-  asked = rw (known, numeral-last r (radix-bounds r known .0) x, count, count-known x r known)
-
-  pub fits : n ≤ length out → (done n ≡ written (digitsText x r) out) × (lastNumeral r n x ++ drop n out ≡ held (digitsText x r) out)
-  fits h = let f = text-fits (lastNumeral r n x) out n (length-last r n x) h in rw asked (sym (f .0), sym (f .1))
-
-  pub short : length out < n → (refused 8 0 ≡ written (digitsText x r) out) × (out ≡ held (digitsText x r) out)
-  short h = let f = text-short (lastNumeral r n x) out n (length-last r n x) h in rw asked (sym (f .0), sym (f .1))
-
-pub unknown : (x r : ℕ) (out : List ℕ) → isRadix r ≡ false → (refused 2 0 ≡ written (digitsText x r) out) × (out ≡ held (digitsText x r) out)
+pub asked : (x r w : ℕ) → isRadix r ≡ true → isWidth w ≡ true → digitsText x r w ≡ done (numeral r w x)
 unfolding digitsText
-unknown x r out h = (rw h, rw h)
+asked x r w known wide = rw (known, wide)
+
+module _ (x r w n : ℕ) (out : List ℕ) (known : isRadix r ≡ true) (wide : isWidth w ≡ true) (count : n ≡ digitCount x r w) where
+  asked-last : digitsText x r w ≡ done (lastNumeral r n x)
+  asked-last = asked x r w known wide ∙ rw (count, count-known x r w known) (ap (λ (t : List ℕ). done t) (numeral-last r (radix-bounds r known .0) w x))
+
+  pub fits : n ≤ length out → (done n ≡ written (digitsText x r w) out) × (lastNumeral r n x ++ drop n out ≡ held (digitsText x r w) out)
+  fits h = let f = text-fits (lastNumeral r n x) out n (length-last r n x) h in rw asked-last (sym (f .0), sym (f .1))
+
+  pub short : length out < n → (refused 8 0 ≡ written (digitsText x r w) out) × (out ≡ held (digitsText x r w) out)
+  short h = let f = text-short (lastNumeral r n x) out n (length-last r n x) h in rw asked-last (sym (f .0), sym (f .1))
+
+pub unknown : (x r w : ℕ) (out : List ℕ) → isRadix r ≡ false → (refused 2 0 ≡ written (digitsText x r w) out) × (out ≡ held (digitsText x r w) out)
+unfolding digitsText
+unknown x r w out h = (rw h, rw h)
+
+pub no-width : (x r w : ℕ) (out : List ℕ) → isRadix r ≡ true → isWidth w ≡ false → (refused 16 0 ≡ written (digitsText x r w) out) × (out ≡ held (digitsText x r w) out)
+unfolding digitsText
+no-width x r w out h k = (rw (h, k), rw (h, k))

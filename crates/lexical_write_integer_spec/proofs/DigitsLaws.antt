@@ -28,6 +28,20 @@ same r hr (suc f) (suc g) x hf hg = go (ltb x r) refl (λ h. let d = div-lt-self
     go true e ih = rw e
     go false e ih = rw (e, ih (ltb-false x r e))
 
+-- there is always one
+up-to-pos : (r n x : ℕ) → 0 < length (digitsUpTo r n x)
+unfolding digitsUpTo
+up-to-pos r zero x = omega arith
+up-to-pos r (suc n) x = go (ltb x r) refl
+  where
+    go : (b : Bool) → ltb x r ≡ b → 0 < length (digitsUpTo r (suc n) x)
+    go true e = rw e (omega arith)
+    go false e = rw (e, length-append) (omega arith)
+
+pub count-pos : (r x : ℕ) → 0 < length (digits r x)
+unfolding digits
+count-pos r x = up-to-pos r x x
+
 -- a number below the radix is its one digit
 pub digits-lt : (r x : ℕ) → x < r → digits r x ≡ x ∷ []
 unfolding digits digitsUpTo
@@ -93,9 +107,6 @@ count-lt r x h = rw (digits-lt r x h)
 pub count-ge : (r x : ℕ) → 1 < r → r ≤ x → length (digits r x) ≡ length (digits r (x / r)) + 1
 count-ge r x hr h = rw (digits-ge r x hr h) (length-append (digits r (x / r)) (x % r ∷ []))
 
-pub count-pos : (r : ℕ) → 1 < r → (x : ℕ) → 0 < length (digits r x)
-count-pos r hr = by-quotient r hr (λ x. 0 < length (digits r x)) (λ x h. omega (arith, count-lt r x h)) (λ x h ih. omega (arith, count-ge r x hr h))
-
 -- a number is below the power of as many as its digits, and below no smaller one but the first
 pub lt-pow : (r : ℕ) → 1 < r → (x : ℕ) → x < r ^ length (digits r x)
 lt-pow r hr = by-quotient r hr (λ x. x < r ^ length (digits r x)) small step
@@ -151,28 +162,4 @@ pub first-pos : (r : ℕ) → 1 < r → (x : ℕ) → 0 < x → 0 < getD (digits
 first-pos r hr = by-quotient r hr (λ x. 0 < x → 0 < getD (digits r x) 0 0) (λ x h p. rw (digits-lt r x h) p) step
   where
     step : (x : ℕ) → r ≤ x → (0 < x / r → 0 < getD (digits r (x / r)) 0 0) → 0 < x → 0 < getD (digits r x) 0 0
-    step x h ih p = rw (digits-ge r x hr h, List·getD-append (digits r (x / r)) (x % r ∷ []) 0 0 (count-pos r hr (x / r))) (ih (quotient-pos r x hr h))
-
--- ---- as bytes
-pub numeral-lt : (r x : ℕ) → x < r → numeral r x ≡ digitByte x ∷ []
-unfolding numeral
-numeral-lt r x h = rw (digits-lt r x h)
-
-pub numeral-ge : (r x : ℕ) → 1 < r → r ≤ x → numeral r x ≡ numeral r (x / r) ++ (digitByte (x % r) ∷ [])
-unfolding numeral
-numeral-ge r x hr h = ap (map digitByte) (digits-ge r x hr h) ∙ map-append digitByte (digits r (x / r)) (x % r ∷ [])
-
-pub length-numeral : (r x : ℕ) → length (numeral r x) ≡ length (digits r x)
-unfolding numeral
-length-numeral r x = length-map (digits r x) digitByte
-
--- the last byte is the remainder's
-pub last-byte : (r x d : ℕ) → 1 < r → getD (numeral r x) (length (numeral r x) - 1) d ≡ digitByte (x % r)
-last-byte r x d hr = go (ltb x r) refl
-  where
-    go : (b : Bool) → ltb x r ≡ b → getD (numeral r x) (length (numeral r x) - 1) d ≡ digitByte (x % r)
-    go true e = let h = ltb-true x r e in rw (numeral-lt r x h, mod-eq-of-lt {n = x} {m = r} h)
-    go false e =
-        let h = ltb-false x r e in
-        let n : length (numeral r (x / r)) ≡ length (numeral r x) - 1 = omega (arith, length-numeral r x, length-numeral r (x / r), count-ge r x hr h) in
-        rw (← n, numeral-ge r x hr h) (getD-at (numeral r (x / r)) (digitByte (x % r)) [] d (length (numeral r (x / r))) refl)
+    step x h ih p = rw (digits-ge r x hr h, List·getD-append (digits r (x / r)) (x % r ∷ []) 0 0 (count-pos r (x / r))) (ih (quotient-pos r x hr h))

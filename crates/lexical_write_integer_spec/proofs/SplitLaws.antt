@@ -8,30 +8,31 @@ use lib.Ieee.{size}
 use lib.Ieee.Digits.{size-le}
 use lib.ListN.{length, take, drop}
 use lib.Seq.{take-at, drop-at}
-use Rattle.lexical_write_integer_spec.specs.Digits.{digits, numeral}
+use Rattle.lexical_write_integer_spec.specs.Digits.{numeral}
 use Rattle.lexical_write_integer_spec.specs.Write.{lastNumeral}
 use Rattle.lexical_write_integer_spec.proofs.CountLaws.{count-log}
-use Rattle.lexical_write_integer_spec.proofs.DigitsLaws.{pow-mul, radix-above, length-numeral}
+use Rattle.lexical_write_integer_spec.proofs.DigitsLaws.{pow-mul, radix-above}
+use Rattle.lexical_write_integer_spec.proofs.NumeralLaws.{length-one}
 use Rattle.lexical_write_integer_spec.proofs.LastLaws.{length-last, numeral-last, last-add}
 
-module _ (b x n w : ℕ) (some-bits : 0 < b) (count : n ≡ length (numeral (2 ^ b) x)) (inside : w ≤ n) where
-  split : numeral (2 ^ b) x ≡ lastNumeral (2 ^ b) w (x / 2 ^ (b * (n - w))) ++ lastNumeral (2 ^ b) (n - w) x
+module _ (b x n w : ℕ) (some-bits : 0 < b) (count : n ≡ length (numeral (2 ^ b) 1 x)) (inside : w ≤ n) where
+  split : numeral (2 ^ b) 1 x ≡ lastNumeral (2 ^ b) w (x / 2 ^ (b * (n - w))) ++ lastNumeral (2 ^ b) (n - w) x
   split =
-      let e : length (digits (2 ^ b) x) ≡ w + (n - w) = omega (arith, length-numeral (2 ^ b) x) in
-      numeral-last (2 ^ b) (radix-above b some-bits) x
+      let e : length (numeral (2 ^ b) 1 x) ≡ w + (n - w) = omega arith in
+      numeral-last (2 ^ b) (radix-above b some-bits) 1 x
       ∙ ap (λ (k : ℕ). lastNumeral (2 ^ b) k x) e
       ∙ last-add (2 ^ b) w (n - w) x
       ∙ rw (pow-mul 2 b (n - w))
 
-  pub front : lastNumeral (2 ^ b) w (x / 2 ^ (b * (n - w))) ≡ take w (numeral (2 ^ b) x)
+  pub front : lastNumeral (2 ^ b) w (x / 2 ^ (b * (n - w))) ≡ take w (numeral (2 ^ b) 1 x)
   front = rw split (sym (take-at (lastNumeral (2 ^ b) w (x / 2 ^ (b * (n - w)))) (lastNumeral (2 ^ b) (n - w) x) w (length-last (2 ^ b) w (x / 2 ^ (b * (n - w))))))
 
-  pub back : lastNumeral (2 ^ b) (n - w) x ≡ drop w (numeral (2 ^ b) x)
+  pub back : lastNumeral (2 ^ b) (n - w) x ≡ drop w (numeral (2 ^ b) 1 x)
   back = rw split (sym (drop-at (lastNumeral (2 ^ b) w (x / 2 ^ (b * (n - w)))) (lastNumeral (2 ^ b) (n - w) x) w (length-last (2 ^ b) w (x / 2 ^ (b * (n - w))))))
 
   -- the shift is one of a u64
   pub shift-small : b ≤ 5 → x < 2 ^ 59 → b * (n - w) < 64
   shift-small few h =
-      let k : n - w ≤ (size x - 1) / b + 1 = omega (arith, count-log b x some-bits, length-numeral (2 ^ b) x) in
+      let k : n - w ≤ (size x - 1) / b + 1 = omega (arith, count-log b x some-bits, length-one (2 ^ b) x) in
       let m : b * ((size x - 1) / b + 1) ≡ b * ((size x - 1) / b) + b = mul-add b ((size x - 1) / b) 1 ∙ rw mul-one in
       lt-of-le-of-lt (mul-le-mul-left b k) (omega (arith, m, mul-div-le (size x - 1) b, size-le x 59 h))

@@ -6,24 +6,24 @@ use mathlib.Core.List.{_++_}
 use lib.ListN.{length, getD}
 use lib.Ieee.{size}
 use Rattle.lexical_util.specs.Digit.{AreDigits, digitsValue}
-use Rattle.lexical_write_integer_spec.specs.Digits.{digits, numeral}
+use Rattle.lexical_write_integer_spec.specs.Digits.{digits, widened, numeral}
 use Rattle.lexical_write_integer_spec.specs.Write.{lastNumeral}
 
--- read back, the digits are the number
+-- read back, the digits are the number, whatever the width
 abbrev pub ReadBack : Type 0
-ReadBack = (radix x : ℕ) → 1 < radix → digitsValue radix (digits radix x) ≡ x
+ReadBack = (radix width x : ℕ) → 1 < radix → digitsValue radix (widened width (digits radix x)) ≡ x
 
 -- each is a digit of the radix
 abbrev pub EachBelow : Type 0
-EachBelow = (radix x : ℕ) → 1 < radix → AreDigits radix (digits radix x)
+EachBelow = (radix width x : ℕ) → 1 < radix → AreDigits radix (widened width (digits radix x))
 
--- no leading zeros
+-- in width 1 no leading zeros
 abbrev pub NoLeadingZero : Type 0
-NoLeadingZero = (radix x : ℕ) → 1 < radix → 0 < x → getD (digits radix x) 0 0 ≢ 0
+NoLeadingZero = (radix x : ℕ) → 1 < radix → 0 < x → getD (widened 1 (digits radix x)) 0 0 ≢ 0
 
--- in radix 2 ^ b there are ceil (significant bits / b), and at least one
+-- in radix 2 ^ b there are ceil (significant bits / b), at least one and at least the width
 abbrev pub DigitCount : Type 0
-DigitCount = (b x : ℕ) → 0 < b → length (digits (2 ^ b) x) ≡ max 1 ((size x + b - 1) / b)
+DigitCount = (b width x : ℕ) → 0 < b → length (widened width (digits (2 ^ b) x)) ≡ max (max 1 width) ((size x + b - 1) / b)
 
 -- the last digits are those of the quotient, and then more
 abbrev pub LastJoin : Type 0
@@ -31,4 +31,4 @@ LastJoin = (radix j k x : ℕ) → lastNumeral radix (j + k) x ≡ lastNumeral r
 
 -- as many of them as there are digits are the digits
 abbrev pub LastAreAll : Type 0
-LastAreAll = (radix x : ℕ) → 1 < radix → lastNumeral radix (length (digits radix x)) x ≡ numeral radix x
+LastAreAll = (radix width x : ℕ) → 1 < radix → lastNumeral radix (length (numeral radix width x)) x ≡ numeral radix width x

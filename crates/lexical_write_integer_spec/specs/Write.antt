@@ -1,22 +1,22 @@
--- What the digits calls are asked for: document 01, "Digits". The answer of one that writes, and the lent bytes, are `written` and `held` of it. Definitions only.
+-- What the digits calls are asked for: document 01, "Digits", and document 02, 2.2. The answer of one that writes, and the lent bytes, are `written` and `held` of it. Definitions only.
 use Prim.Native.Nat.{ℕ, zero, suc, _/_, _%_, _^_}
 use mathlib.Core.Bool.{cond, not, _&&_}
 use mathlib.Core.List.{List, [], _∷_, _++_}
 use lib.Dec.{leb, ltb}
 use lib.ListN.{length}
 use Rattle.lexical_util.specs.Answer.{Answer, done, checked}
-use Rattle.lexical_util.specs.Digit.{digitByte, isRadix}
+use Rattle.lexical_util.specs.Digit.{digitByte, isRadix, isWidth}
 use Rattle.lexical_write_integer_spec.specs.Digits.{digits, numeral}
 
--- 2 radix unknown
-unfoldable pub digitsText : ℕ → ℕ → Answer (List ℕ)
-digitsText x radix = checked ((2, not (isRadix radix)) ∷ []) (done (numeral radix x))
+-- 2 radix unknown; 16 width not 1 to 4
+unfoldable pub digitsText : ℕ → ℕ → ℕ → Answer (List ℕ)
+digitsText x radix width = checked ((2, not (isRadix radix)) ∷ (16, not (isWidth width)) ∷ []) (done (numeral radix width x))
 
--- how many digits x has, and 0 where the radix is unknown
-unfoldable pub digitCount : ℕ → ℕ → ℕ
-digitCount x radix = cond (isRadix radix) (length (digits radix x)) 0
+-- how many digits x has, at least so many, and 0 where the radix is unknown
+unfoldable pub digitCount : ℕ → ℕ → ℕ → ℕ
+digitCount x radix width = cond (isRadix radix) (length (numeral radix width x)) 0
 
--- the same in radix 2 ^ b, and 0 where b is 0, since no radix has digits of no bits
+-- how many x has in radix 2 ^ b, and 0 where b is 0, since no radix has digits of no bits
 unfoldable pub digitLog : ℕ → ℕ → ℕ
 digitLog x b = cond (ltb 0 b) (length (digits (2 ^ b) x)) 0
 

@@ -12,7 +12,8 @@ use lib.Seq.{take-append-seam}
 use Rattle.lexical_util.specs.Answer.{Answer, done, refused, andThen, written, held}
 use Rattle.lexical_util.proofs.AnswerLaws.{refused-done, done-same, text-fits}
 use Rattle.lexical_write_integer_spec.specs.Digits.{numeral}
-use Rattle.lexical_write_integer_spec.proofs.DigitsLaws.{length-numeral, count-le}
+use Rattle.lexical_write_integer_spec.proofs.DigitsLaws.{count-le}
+use Rattle.lexical_write_integer_spec.proofs.NumeralLaws.{length-one}
 use Rattle.lexical_format.specs.declared.format.Pair.{Pair}
 use Rattle.lexical_buffer.specs.Put.{Puts}
 use Rattle.lexical_buffer.proofs.PutLaws.{put-front}
@@ -28,12 +29,12 @@ use Rattle.outage_console.specs.Screen.{refusalLine, screen, reading, re
 use Rattle.outage_console.specs.Code.{putCount, putBytes}
 
 -- ---- a refusal's line
-number-short : (k x : ℕ) → x < 10 ^ (k + 1) → length (numeral 10 x) ≤ k + 1
+number-short : (k x : ℕ) → x < 10 ^ (k + 1) → length (numeral 10 1 x) ≤ k + 1
 number-short k x h =
     let e : k + 1 ≡ suc k = omega arith in
-    rw (length-numeral 10 x, e) (count-le 10 (omega arith) k x (rw e at h))
+    rw (length-one 10 x, e) (count-le 10 (omega arith) k x (rw e at h))
 
-pub line-short : (n p : ℕ) → n < 4294967296 → p < 18446744073709551616 → (length (numeral 10 n) ≤ 10) × (length (numeral 10 p) ≤ 20)
+pub line-short : (n p : ℕ) → n < 4294967296 → p < 18446744073709551616 → (length (numeral 10 1 n) ≤ 10) × (length (numeral 10 1 p) ≤ 20)
 line-short n p h k = (number-short 9 n (omega arith), number-short 19 p (omega arith))
 
 -- ---- an answer in bytes enough for it

@@ -16,7 +16,7 @@ use Rattle.lexical_read_float_spec.specs.Read.{longestRead}
 
 -- "refused N at P" and LF, with number and place in radix 10
 unfoldable pub refusalLine : ℕ → ℕ → List ℕ
-refusalLine n p = (114 ∷ 101 ∷ 102 ∷ 117 ∷ 115 ∷ 101 ∷ 100 ∷ 32 ∷ []) ++ (numeral 10 n ++ ((32 ∷ 97 ∷ 116 ∷ 32 ∷ []) ++ (numeral 10 p ++ (10 ∷ []))))
+refusalLine n p = (114 ∷ 101 ∷ 102 ∷ 117 ∷ 115 ∷ 101 ∷ 100 ∷ 32 ∷ []) ++ (numeral 10 1 n ++ ((32 ∷ 97 ∷ 116 ∷ 32 ∷ []) ++ (numeral 10 1 p ++ (10 ∷ []))))
 
 -- what a program writes of an answer
 abbrev pub screen : Answer (List ℕ) → List ℕ

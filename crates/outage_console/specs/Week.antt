@@ -11,7 +11,7 @@ use Rattle.outage_spec.specs.Format.{printed}
 use Rattle.outage_spec.specs.Calls.{sheetFormat}
 use Rattle.outage_console.specs.Screen.{printing, reading, rewriting}
 
--- a format that table to sheet takes: refusals 1 to 6 refuse nothing, and it has no digit limit
+-- a format that table to sheet takes: refusals 1 to 6 and 16 refuse nothing, and it has no digit limit
 abbrev pub Taken : TextFormat → Type 0
 Taken G = (row : Pair) × (sheetFormat (G .format) (G .options) ≡ done row)
 

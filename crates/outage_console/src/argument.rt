@@ -37,6 +37,7 @@ pub fn sheet_in(radix: u32, base: u32, exponent_radix: u32) -> TextFormat
             min_significant_digits: 0,
             positive_exponent_break: 0,
             negative_exponent_break: 0,
+            exponent_width: 1,
             round_mode: RoundMode::Round,
             trim_floats: false,
             exponent: b'p',

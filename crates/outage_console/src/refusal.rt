@@ -14,8 +14,8 @@ pub(crate) fn put_refusal(out: &mut [u8], refusal: Refusal) -> usize
     ensures { λ r. ⌜ Puts (now (out .entry)) 0 (refusalLine (refusal .number) (refusal .place)) r (now (out .exit)) ⌝ }
 {
     let number = put_bytes(out, 0, b"refused ");
-    let at = put_number(out, number, refusal.number as u64, 10);
+    let at = put_number(out, number, refusal.number as u64, 10, 1);
     let place = put_bytes(out, at, b" at ");
-    let newline = put_number(out, place, refusal.place as u64, 10);
+    let newline = put_number(out, place, refusal.place as u64, 10, 1);
     put_byte(out, newline, b'\n')
 }

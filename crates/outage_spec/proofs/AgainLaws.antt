@@ -193,7 +193,7 @@ windows-sheet : (G : NumberFormat) (q : Options) (row : Pair) → sheetFormat G 
 unfolding tableSheet sheetOf
 windows-sheet G q row f ws good few =
     let texts = rows-text G q row (taken G q row f .writes) ws good in
-    (numeral 10 (length ws) ++ (10 ∷ texts .0), rw (f, windows-again ws good few, texts .1))
+    (numeral 10 1 (length ws) ++ (10 ∷ texts .0), rw (f, windows-again ws good few, texts .1))
 
 -- a table that came from a sheet has a sheet in every format that is taken
 pub sheet-again : (F : NumberFormat) (o : Options) (s : List ℕ) (room : ℕ) (t : List ℕ) → sheetTable F o s room ≡ done t

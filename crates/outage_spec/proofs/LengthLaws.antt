@@ -11,7 +11,8 @@ use Rattle.lexical_util.specs.Answer.{Answer, done, refused, written}
 use Rattle.lexical_util.specs.Digit.{All}
 use Rattle.lexical_util.proofs.AnswerLaws.{done-same}
 use Rattle.lexical_write_integer_spec.specs.Digits.{numeral}
-use Rattle.lexical_write_integer_spec.proofs.DigitsLaws.{length-numeral, count-le}
+use Rattle.lexical_write_integer_spec.proofs.DigitsLaws.{count-le}
+use Rattle.lexical_write_integer_spec.proofs.NumeralLaws.{length-one}
 use Rattle.lexical_format.specs.declared.format.NumberFormat.{NumberFormat}
 use Rattle.lexical_format.specs.declared.format.Pair.{Pair}
 use Rattle.lexical_format.specs.declared.options.Options.{Options}
@@ -49,8 +50,8 @@ sheet-short F o t text e =
     let n = k .count in
     let h = header t n (k .is-count) in
     let many : length ws ≡ n = rows-count t n 0 n ws (k .are-windows) in
-    let size : length text ≡ length (numeral 10 (length ws)) + suc (length (k .rows)) = ap length (k .is-text) ∙ length-append (numeral 10 (length ws)) (10 ∷ k .rows) in
-    let count : length (numeral 10 (length ws)) ≤ 3 = rw (length-numeral 10 (length ws)) (count-le 10 (omega arith) 2 (length ws) (omega (arith, h .few))) in
+    let size : length text ≡ length (numeral 10 1 (length ws)) + suc (length (k .rows)) = ap length (k .is-text) ∙ length-append (numeral 10 1 (length ws)) (10 ∷ k .rows) in
+    let count : length (numeral 10 1 (length ws)) ≤ 3 = rw (length-one 10 (length ws)) (count-le 10 (omega arith) 2 (length ws) (omega (arith, h .few))) in
     omega (arith, size, count, h .few, rows-short F o (k .row) (taken F o (k .row) (k .is-format)) ws (rows-sound t n 0 n ws (k .are-windows)) (k .rows) (k .are-rows))
 
 pub longest-sheet : (F : NumberFormat) (o : Options) (t out : List ℕ) → LongestSheet (written (tableSheet F o t) out)

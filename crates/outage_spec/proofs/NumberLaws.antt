@@ -12,6 +12,7 @@ use Rattle.lexical_util.specs.Digit.{digitByte, digitIn, AreDigits, readOn, dig
 use Rattle.lexical_util.proofs.DigitLaws.{in-digit, byte-figure}
 use Rattle.lexical_write_integer_spec.specs.Digits.{digits, numeral}
 use Rattle.lexical_write_integer_spec.proofs.DigitsLaws.{digits-value, digits-below, count-lt, count-ge, count-pos}
+use Rattle.lexical_write_integer_spec.proofs.NumeralLaws.{numeral-one}
 use Rattle.lexical_read_float_spec.specs.Parse.{run, more}
 use Rattle.lexical_read_float_spec.proofs.RunLaws.{run-stops, run-all, is-run}
 use Rattle.outage_spec.specs.Sheet.{numberIn}
@@ -24,10 +25,11 @@ abbrev count : List ℕ → ℕ
 count ds = length (digits 10 (digitsValue 10 ds))
 
 -- ---- the number of a numeral
-pub number-numeral : (limit x : ℕ) → x ≤ limit → numberIn limit (numeral 10 x) ≡ some x
-unfolding numberIn numeral
+pub number-numeral : (limit x : ℕ) → x ≤ limit → numberIn limit (numeral 10 1 x) ≡ some x
+unfolding numberIn
 number-numeral limit x h =
     rw (
+      numeral-one 10 x,
       run-all 10 (digits 10 x) (omega arith) (digits-below 10 (omega arith) x),
       digits-value 10 (omega arith) x,
       length-map (digits 10 x) digitByte,
@@ -145,7 +147,7 @@ module _ (limit : ℕ) (l : List ℕ) where
       go false q = rw q
 
   pub in-none : length l ≡ 0 → numberIn limit l ≡ none
-  in-none h = no-count (λ e c. omega (arith, c, count-pos 10 (omega arith) (digitsValue 10 (front l))))
+  in-none h = no-count (λ e c. omega (arith, c, count-pos 10 (digitsValue 10 (front l))))
 
   pub in-one : length l ≡ 1 → numberIn limit l ≡ spelled limit 0 l
   in-one h = by-count (λ e. one-count (front l) (is-run 10 l .digits) (e ∙ h) ∙ e)

@@ -2,7 +2,7 @@
 use Prim.Native.Nat.{ℕ, suc, _+_, _≤_}
 use mathlib.Core.Path.{_≡_, refl, sym, ap, _∙_}
 use mathlib.Core.Bool.{Bool, true, false, cond}
-use mathlib.Core.List.{List, _∷_, _++_}
+use mathlib.Core.List.{List, _∷_, _++_, map}
 use native.Mathlib.Omega.{arith}
 use borrow.Author.Tests.{le-leb, ne-eqb, le-ltb}
 use lib.Dec.{leb}
@@ -10,7 +10,9 @@ use lib.ListN.{length, take, drop, length-append}
 use lib.Seq.{drop-append-add, take-append-seam}
 use Rattle.lexical_util.specs.Answer.{Answer, done, refused, andThen, written, held}
 use Rattle.lexical_util.proofs.AnswerLaws.{refused-done, done-same}
+use Rattle.lexical_util.specs.Digit.{digitByte}
 use Rattle.lexical_write_integer_spec.specs.Digits.{digits, numeral}
+use Rattle.lexical_write_integer_spec.proofs.NumeralLaws.{numeral-one}
 use Rattle.lexical_format.specs.declared.format.NumberFormat.{NumberFormat}
 use Rattle.lexical_format.specs.declared.format.Pair.{Pair}
 use Rattle.lexical_format.specs.declared.options.Options.{Options}
@@ -36,14 +38,14 @@ pub record Printed (F : NumberFormat) (o : Options) (t text : List ℕ) : Type 0
   pub is-count : tableCount t ≡ done count
   pub are-windows : rowsFrom t count 0 count ≡ done windows
   pub are-rows : rowsText F o windows ≡ done rows
-  pub is-text : text ≡ numeral 10 (length windows) ++ (10 ∷ rows)
+  pub is-text : text ≡ numeral 10 1 (length windows) ++ (10 ∷ rows)
 
 pub printed : (F : NumberFormat) (o : Options) (t text : List ℕ) → tableSheet F o t ≡ done text → Printed F o t text
 unfolding tableSheet tableWindows sheetOf
 printed F o t text e = by-format (sheetFormat F o) refl e
   where
     by-rows : (row : Pair) → sheetFormat F o ≡ done row → (n : ℕ) → tableCount t ≡ done n → (ws : List Window) → rowsFrom t n 0 n ≡ done ws
-        → (a : Answer (List ℕ)) → rowsText F o ws ≡ a → andThen a (λ r. done (numeral 10 (length ws) ++ (10 ∷ r))) ≡ done text → Printed F o t text
+        → (a : Answer (List ℕ)) → rowsText F o ws ≡ a → andThen a (λ r. done (numeral 10 1 (length ws) ++ (10 ∷ r))) ≡ done text → Printed F o t text
     by-rows row f n c ws w (refused k p) q e = absurd (refused-done k p text e)
     by-rows row f n c ws w (done r) q e =
         record {
@@ -55,7 +57,7 @@ printed F o t text e = by-format (sheetFormat F o) refl e
           is-count = c;
           are-windows = w;
           are-rows = q;
-          is-text = sym (done-same (numeral 10 (length ws) ++ (10 ∷ r)) text e);
+          is-text = sym (done-same (numeral 10 1 (length ws) ++ (10 ∷ r)) text e);
         }
 
     by-windows : (row : Pair) → sheetFormat F o ≡ done row → (n : ℕ) → tableCount t ≡ done n → (a : Answer (List Window)) → rowsFrom t n 0 n ≡ a → andThen a (sheetOf F o) ≡ done text → Printed F o t text
@@ -72,15 +74,14 @@ printed F o t text e = by-format (sheetFormat F o) refl e
 
 -- ---- its sheet, read
 module _ (n : ℕ) (rows : List ℕ) where
-  count-line : before 10 (numeral 10 n ++ (10 ∷ rows)) ≡ numeral 10 n
-  unfolding numeral
-  count-line = before-at 10 (numeral 10 n) rows (digits-lack 10 (omega arith) (digits 10 n))
+  count-line : before 10 (numeral 10 1 n ++ (10 ∷ rows)) ≡ numeral 10 1 n
+  count-line = rw (numeral-one 10 n) (before-at 10 (map digitByte (digits 10 n)) rows (digits-lack 10 (omega arith) (digits 10 n)))
 
-  count-back : n ≤ mostWindows → sheetCount (numeral 10 n ++ (10 ∷ rows)) ≡ done n
+  count-back : n ≤ mostWindows → sheetCount (numeral 10 1 n ++ (10 ∷ rows)) ≡ done n
   unfolding sheetCount
   count-back h =
-      let size : length (numeral 10 n ++ (10 ∷ rows)) ≡ length (numeral 10 n) + suc (length rows) = length-append (numeral 10 n) (10 ∷ rows) in
-      rw (count-line, ne-eqb (length (numeral 10 n)) (length (numeral 10 n ++ (10 ∷ rows))) (omega arith), number-numeral mostWindows n h)
+      let size : length (numeral 10 1 n ++ (10 ∷ rows)) ≡ length (numeral 10 1 n) + suc (length rows) = length-append (numeral 10 1 n) (10 ∷ rows) in
+      rw (count-line, ne-eqb (length (numeral 10 1 n)) (length (numeral 10 1 n ++ (10 ∷ rows))) (omega arith), number-numeral mostWindows n h)
 
 pub table-again : (F : NumberFormat) (o : Options) (t text : List ℕ) → AreBytes t → tableSheet F o t ≡ done text → (room : ℕ) → length t ≤ room → sheetTable F o text room ≡ done t
 unfolding sheetTable countedTable
@@ -92,14 +93,14 @@ table-again F o t text bytes e room enough =
     let many : length ws ≡ n = rows-count t n 0 n ws (k .are-windows) in
     let format = taken F o (k .row) (k .is-format) in
     let same : tableOf ws ≡ t = table-back t bytes n (h .size) ws h (k .are-windows) in
-    let rows-again = rows-back F o (k .row) format ws (rows-sound t n 0 n ws (k .are-windows)) (k .rows) (k .are-rows) (length (numeral 10 (length ws)) + 1) in
+    let rows-again = rows-back F o (k .row) format ws (rows-sound t n 0 n ws (k .are-windows)) (k .rows) (k .are-rows) (length (numeral 10 1 (length ws)) + 1) in
     rw (
       k .is-text,
       format .reads,
       count-back (length ws) (k .rows) (omega (arith, h .few)),
       le-ltb room (tableSize (length ws)) (omega (arith, h .size)),
       count-line (length ws) (k .rows),
-      drop-append-add (numeral 10 (length ws)) (10 ∷ k .rows) 1,
+      drop-append-add (numeral 10 1 (length ws)) (10 ∷ k .rows) 1,
       rows-again,
       same,
     )

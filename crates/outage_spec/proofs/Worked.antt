@@ -3,9 +3,9 @@ use mathlib.Core.Path.{_≡_, refl}
 use mathlib.Core.List.{[]}
 use lib.Count.{trailingZeros}
 use lib.Ieee.{size, span, climb, odd, units, round, ofBits, ofFields, toBits, lt}
-use Rattle.lexical_util.specs.Digit.{digitByte, digitValue, digitIn, isDigit, isRadix, readOn}
+use Rattle.lexical_util.specs.Digit.{digitByte, digitValue, digitIn, isDigit, isRadix, isWidth, readOn}
 use Rattle.lexical_util.specs.Examples.{failing}
-use Rattle.lexical_write_integer_spec.specs.Digits.{digitsUpTo, digits, numeral}
+use Rattle.lexical_write_integer_spec.specs.Digits.{digitsUpTo, digits, widened, numeral}
 use Rattle.lexical_format.specs.Format.{pairs, findPair, pairOf, badByte, badBytes, badCounts, badBreaks, readingFormat, writingFormat}
 use Rattle.lexical_write_float_spec.specs.Value.{normal, exactDigits}
 use Rattle.lexical_write_float_spec.specs.Limit.{multipleOf, limited}
@@ -21,7 +21,7 @@ use Rattle.outage_spec.specs.Calls.{sheetFormat, tableSheet, countedTabl
 use Rattle.outage_spec.specs.Examples.{tables, sheets}
 
 pub tables-hold : failing tables ≡ []
-unfolding failing tables tableSheet sheetFormat tableWindows tableCount rowsFrom sheetOf rowsText ofBytes toBytes ofBits ofFields toBits lt writeText floatText limitedText text positive negative exponentText scientific layoutOf isScientific limited multipleOf exactDigits normal writingFormat badBreaks badCounts badBytes badByte pairOf findPair pairs numeral digits digitsUpTo isRadix isDigit digitIn digitValue digitByte odd size span climb trailingZeros
+unfolding failing tables tableSheet sheetFormat tableWindows tableCount rowsFrom sheetOf rowsText ofBytes toBytes ofBits ofFields toBits lt writeText floatText limitedText text positive negative exponentText scientific layoutOf isScientific limited multipleOf exactDigits normal writingFormat badBreaks badCounts badBytes badByte pairOf findPair pairs numeral widened digits digitsUpTo isWidth isRadix isDigit digitIn digitValue digitByte odd size span climb trailingZeros
 tables-hold = refl
 
 pub sheets-hold : failing sheets ≡ []

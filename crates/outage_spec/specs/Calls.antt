@@ -16,7 +16,7 @@ use Rattle.lexical_write_float_spec.specs.Write.{longestText}
 
 module _ (F : NumberFormat) (o : Options) where
   -- ---- table to sheet
-  -- 1 to 4; 5, also for any digit limit; 6
+  -- 1 to 4; 5, also for any digit limit; 6; 16
   unfoldable pub sheetFormat : Answer Pair
   sheetFormat = judgedFormat (badCounts o || given (o .«max_significant_digits»)) F o
 

@@ -45,21 +45,22 @@ notANumber = 0x7ff8000000000000
 abbrev prints : String → List ℕ → Answer (List ℕ) → Example
 prints name t answer = record { name = name; holds = sameAnswer sameBytes (tableSheet (printed .format) (printed .options) t) answer }
 
--- with a digit limit and a low break
-abbrev limited : ℕ → ℤ → Options
-limited most low = record {
+-- with a digit limit, a low break and a width
+abbrev printedWith : ℕ → ℤ → ℕ → Options
+printedWith most low width = record {
   «max_significant_digits» = most;
   «min_significant_digits» = printed .options .«min_significant_digits»;
   «positive_exponent_break» = printed .options .«positive_exponent_break»;
   «negative_exponent_break» = low;
+  «exponent_width» = width;
   «round_mode» = printed .options .«round_mode»;
   «trim_floats» = printed .options .«trim_floats»;
   exponent = printed .options .exponent;
   «decimal_point» = printed .options .«decimal_point»;
 }
 
-abbrev limits : String → ℕ → ℤ → Answer (List ℕ) → Example
-limits name most low answer = record { name = name; holds = sameAnswer sameBytes (tableSheet (printed .format) (limited most low) (table 0 8 [])) answer }
+abbrev printsWith : String → ℕ → ℤ → ℕ → List ℕ → Answer (List ℕ) → Example
+printsWith name most low width t answer = record { name = name; holds = sameAnswer sameBytes (tableSheet (printed .format) (printedWith most low width) t) answer }
 
 unfoldable pub tables : List Example
 tables =
@@ -76,15 +77,24 @@ tables =
     ∷ prints "a NaN as a start of row 1" (table 2 40 (one ∷ notANumber ∷ one ∷ one ∷ [])) (refused 7 1)
     ∷ prints "an end below its start" (table 1 24 (oneAndHalf ∷ one ∷ [])) (refused 14 0)
     ∷ prints "row 0's 14 before row 1's 7" (table 2 40 (oneAndHalf ∷ infinity ∷ one ∷ one ∷ [])) (refused 14 0)
-    ∷ limits "no digit limit" 0 (pos 0) (done (lines ("0" ∷ [])))
-    ∷ limits "a digit limit" 5 (pos 0) (refused 5 0)
-    ∷ limits "a break out of range" 0 (pos 1) (refused 6 0)
-    ∷ limits "5 before 6" 5 (pos 1) (refused 5 0)
+    ∷ printsWith "no digit limit" 0 (pos 0) 1 (table 0 8 []) (done (lines ("0" ∷ [])))
+    ∷ printsWith "a digit limit" 5 (pos 0) 1 (table 0 8 []) (refused 5 0)
+    ∷ printsWith "a break out of range" 0 (pos 1) 1 (table 0 8 []) (refused 6 0)
+    ∷ printsWith "5 before 6" 5 (pos 1) 1 (table 0 8 []) (refused 5 0)
+    ∷ printsWith "width 2, the count as it was" 0 (pos 0) 2 (table 1 24 (one ∷ oneAndHalf ∷ [])) (done (lines ("1" ∷ "1.0p00 1.8p00" ∷ [])))
+    ∷ printsWith "width 0" 0 (pos 0) 0 (table 0 8 []) (refused 16 0)
+    ∷ printsWith "width 5" 0 (pos 0) 5 (table 0 8 []) (refused 16 0)
+    ∷ printsWith "6 before 16" 0 (pos 1) 0 (table 0 8 []) (refused 6 0)
+    ∷ printsWith "16 before 13" 0 (pos 0) 0 [] (refused 16 0)
     ∷ []
 
 -- sheet to table, with so many bytes lent
 abbrev stores : String → List ℕ → ℕ → Answer (List ℕ) → Example
 stores name s room answer = record { name = name; holds = sameAnswer sameBytes (sheetTable (printed .format) (printed .options) s room) answer }
+
+-- under a format of width 0, which no writer has
+abbrev storesUnwritten : String → List ℕ → ℕ → Answer (List ℕ) → Example
+storesUnwritten name s room answer = record { name = name; holds = sameAnswer sameBytes (sheetTable (printed .format) (printedWith 0 (pos 0) 0) s room) answer }
 
 -- refused, with bytes enough
 abbrev wrong : String → List ℕ → ℕ → ℕ → Example
@@ -94,6 +104,8 @@ unfoldable pub sheets : List Example
 sheets =
     stores "1.0 to 1.5" (lines ("1" ∷ "1.0p0 1.8p0" ∷ [])) 24 (done (table 1 24 (one ∷ oneAndHalf ∷ [])))
     ∷ stores "no window" (lines ("0" ∷ [])) 8 (done (table 0 8 []))
+    ∷ stores "exponents of any width" (lines ("1" ∷ "1.0p000 1.8p00" ∷ [])) 24 (done (table 1 24 (one ∷ oneAndHalf ∷ [])))
+    ∷ storesUnwritten "no 16 in reading" (lines ("1" ∷ "1.0p0 1.8p0" ∷ [])) 24 (done (table 1 24 (one ∷ oneAndHalf ∷ [])))
     ∷ stores "two windows" (lines ("2" ∷ "0 1.8" ∷ "10p-4 1" ∷ [])) 40 (done (table 2 40 (0 ∷ one ∷ oneAndHalf ∷ one ∷ [])))
     ∷ stores "an end above the largest float by less than half a step" (lines ("1" ∷ "1.0p0 F.FFFFFFFFFFFF8Fp1020" ∷ [])) 24 (done (table 1 24 (one ∷ 0x7fefffffffffffff ∷ [])))
     ∷ wrong "an end half a step above the largest float" (lines ("1" ∷ "1.0p0 F.FFFFFFFFFFFFCp1020" ∷ [])) 11 8

@@ -5,7 +5,7 @@ use lib.IntN.{pos}
 use Rattle.lexical_format.specs.declared.options.RoundMode.the-variants.{Round}
 use Rattle.lexical_rewrite_spec.specs.declared.text_format.TextFormat.{TextFormat}
 
--- point ".", mark "p"
+-- point ".", mark "p", exponents in width 1
 abbrev pub sheetIn : ℕ → ℕ → ℕ → TextFormat
 sheetIn radix base exponentRadix = record {
   format = record {
@@ -22,6 +22,7 @@ sheetIn radix base exponentRadix = record {
     «min_significant_digits» = 0;
     «positive_exponent_break» = pos 0;
     «negative_exponent_break» = pos 0;
+    «exponent_width» = 1;
     «round_mode» = Round;
     «trim_floats» = false;
     exponent = 112;

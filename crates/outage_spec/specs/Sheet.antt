@@ -47,8 +47,9 @@ module _ (F : NumberFormat) (o : Options) where
   rowsText [] = done []
   rowsText (w ∷ ws) = let more = rowsText ws in andThen (fieldsText columns w) (λ s. andThen more (λ t. done (s ++ t)))
 
+  -- n in radix 10, in width 1 whatever the width of the exponents, and LF; then the rows
   unfoldable pub sheetOf : List Window → Answer (List ℕ)
-  sheetOf ws = andThen (rowsText ws) (λ t. done (numeral 10 (length ws) ++ (10 ∷ t)))
+  sheetOf ws = andThen (rowsText ws) (λ t. done (numeral 10 1 (length ws) ++ (10 ∷ t)))
 
 -- the most windows, with texts of so many bytes: behind a count line of four, rows of two texts, a space and an LF
 abbrev pub sheetSize : ℕ → ℕ

@@ -18,6 +18,7 @@ limitedTo limit o =
       «min_significant_digits» = o .«min_significant_digits»;
       «positive_exponent_break» = o .«positive_exponent_break»;
       «negative_exponent_break» = o .«negative_exponent_break»;
+      «exponent_width» = o .«exponent_width»;
       «round_mode» = o .«round_mode»;
       «trim_floats» = o .«trim_floats»;
       exponent = o .exponent;

@@ -11,7 +11,8 @@ use Rattle.lexical_util.specs.Answer.{Answer, done, refused, andThen, written, 
 use Rattle.lexical_util.proofs.AnswerLaws.{refused-done, done-same, text-fits, text-short}
 use Rattle.lexical_write_integer_spec.specs.Digits.{numeral}
 use Rattle.lexical_write_integer_spec.specs.Write.{digitCount}
-use Rattle.lexical_write_integer_spec.proofs.DigitsLaws.{count-le, length-numeral}
+use Rattle.lexical_write_integer_spec.proofs.DigitsLaws.{count-le}
+use Rattle.lexical_write_integer_spec.proofs.NumeralLaws.{length-one}
 use Rattle.lexical_write_integer_spec.proofs.DigitsAnswer.{count-decimal}
 use Rattle.lexical_format.specs.declared.checks.CheckedFormat.{CheckedFormat}
 use Rattle.lexical_format.specs.declared.format.NumberFormat.{NumberFormat}
@@ -73,14 +74,14 @@ module _ (F : NumberFormat) (o : Options) where
         rw (rows-count t n 0 n ws f) at (rows-short F o (A .0) (taken F o (A .0) (A .1)) ws (rows-sound t n 0 n ws f) (rowsOf F o ws) (rows-are n 0 ws f))
 
     pub windows-sheet : tableCount t ≡ done n → rowsFrom t n 0 n ≡ done (contents (rowsFrom t n 0 n))
-        → andThen (tableWindows t) (sheetOf F o) ≡ done (numeral 10 n ++ (10 ∷ rowsOf F o (contents (rowsFrom t n 0 n))))
+        → andThen (tableWindows t) (sheetOf F o) ≡ done (numeral 10 1 n ++ (10 ∷ rowsOf F o (contents (rowsFrom t n 0 n))))
     unfolding tableWindows sheetOf
     windows-sheet e f =
         let ws = contents (rowsFrom t n 0 n) in
         ap (λ (c : Answer ℕ). andThen (andThen c (λ m. rowsFrom t m 0 m)) (sheetOf F o)) e
         ∙ ap (λ (a : Answer (List Window)). andThen a (sheetOf F o)) f
-        ∙ ap (λ (a : Answer (List ℕ)). andThen a (λ s. done (numeral 10 (length ws) ++ (10 ∷ s)))) (rows-are n 0 ws f)
-        ∙ ap (λ (m : ℕ). done (numeral 10 m ++ (10 ∷ rowsOf F o ws))) (rows-count t n 0 n ws f)
+        ∙ ap (λ (a : Answer (List ℕ)). andThen a (λ s. done (numeral 10 1 (length ws) ++ (10 ∷ s)))) (rows-are n 0 ws f)
+        ∙ ap (λ (m : ℕ). done (numeral 10 1 m ++ (10 ∷ rowsOf F o ws))) (rows-count t n 0 n ws f)
 
   pub windows-wrong : (t : List ℕ) → refused 13 0 ≡ tableCount t → andThen (tableWindows t) (sheetOf F o) ≡ refused 13 0
   unfolding tableWindows
@@ -91,36 +92,36 @@ module _ (F : NumberFormat) (o : Options) where
   windows-refused t n r p e f = rw (e, f)
 
 -- ---- the count's digits
-pub count-digits : (n : ℕ) → n ≤ mostWindows → (digitCount n 10 ≡ length (numeral 10 n)) × (length (numeral 10 n) ≤ 3)
-count-digits n h = (count-decimal n ∙ sym (length-numeral 10 n), omega (arith, length-numeral 10 n, count-le 10 (omega arith) 2 n (omega arith)))
+pub count-digits : (n : ℕ) → n ≤ mostWindows → (digitCount n 10 1 ≡ length (numeral 10 1 n)) × (length (numeral 10 1 n) ≤ 3)
+count-digits n h = (count-decimal n 1, omega (arith, length-one 10 n, count-le 10 (omega arith) 2 n (omega arith)))
 
 -- ---- room that is enough for any n rows is enough for these
 pub room-known : (F : NumberFormat) (o : Options) → Admitted F o → (t : List ℕ) (n room : ℕ) → n ≤ mostWindows → rowsFrom t n 0 n ≡ done (contents (rowsFrom t n 0 n)) → 4 + (2 * (longestText + 1)) * n ≤ room
-    → true ≡ leb (length (numeral 10 n) + 1 + length (rowsOf F o (contents (rowsFrom t n 0 n)))) room
+    → true ≡ leb (length (numeral 10 1 n) + 1 + length (rowsOf F o (contents (rowsFrom t n 0 n)))) room
 room-known F o A t n room few f h =
-    let k : length (numeral 10 n) + 1 + length (rowsOf F o (contents (rowsFrom t n 0 n))) ≤ room = omega (arith, count-digits n few .1, rows-most F o A t n f) in
+    let k : length (numeral 10 1 n) + 1 + length (rowsOf F o (contents (rowsFrom t n 0 n))) ≤ room = omega (arith, count-digits n few .1, rows-most F o A t n f) in
     sym (le-leb _ room k)
 
 -- ---- a sheet of n rows, and the bytes lent
 module _ (n : ℕ) (rows d : List ℕ) where
-  sheet-length : length (numeral 10 n ++ (10 ∷ rows)) ≡ length (numeral 10 n) + 1 + length rows
+  sheet-length : length (numeral 10 1 n ++ (10 ∷ rows)) ≡ length (numeral 10 1 n) + 1 + length rows
   sheet-length = simp length-append (omega arith)
 
-  pub sheet-short : length d < length (numeral 10 n) + 1 + length rows → (refused 8 0 ≡ written (done (numeral 10 n ++ (10 ∷ rows))) d) × (d ≡ held (done (numeral 10 n ++ (10 ∷ rows))) d)
-  sheet-short h = let f = text-short (numeral 10 n ++ (10 ∷ rows)) d _ sheet-length h in (sym (f .0), sym (f .1))
+  pub sheet-short : length d < length (numeral 10 1 n) + 1 + length rows → (refused 8 0 ≡ written (done (numeral 10 1 n ++ (10 ∷ rows))) d) × (d ≡ held (done (numeral 10 1 n ++ (10 ∷ rows))) d)
+  sheet-short h = let f = text-short (numeral 10 1 n ++ (10 ∷ rows)) d _ sheet-length h in (sym (f .0), sym (f .1))
 
-  pub sheet-put : length (numeral 10 n) + 1 + length rows ≤ length d → (at : ℕ) (mid : List ℕ) → Puts d 0 (numeral 10 n ++ (10 ∷ [])) at mid → (next : ℕ) (out : List ℕ) → Puts mid at rows next out
-      → (done next ≡ written (done (numeral 10 n ++ (10 ∷ rows))) d) × (out ≡ held (done (numeral 10 n ++ (10 ∷ rows))) d)
+  pub sheet-put : length (numeral 10 1 n) + 1 + length rows ≤ length d → (at : ℕ) (mid : List ℕ) → Puts d 0 (numeral 10 1 n ++ (10 ∷ [])) at mid → (next : ℕ) (out : List ℕ) → Puts mid at rows next out
+      → (done next ≡ written (done (numeral 10 1 n ++ (10 ∷ rows))) d) × (out ≡ held (done (numeral 10 1 n ++ (10 ∷ rows))) d)
   sheet-put h at mid p next out q =
-      let t = numeral 10 n ++ (10 ∷ rows) in
-      let all : Puts d 0 t next out = rw (append-assoc (numeral 10 n) (10 ∷ []) rows) at (puts-more rows out next zero-le p q) in
+      let t = numeral 10 1 n ++ (10 ∷ rows) in
+      let all : Puts d 0 t next out = rw (append-assoc (numeral 10 1 n) (10 ∷ []) rows) at (puts-more rows out next zero-le p q) in
       let f = text-fits t d _ sheet-length h in
-      let z : next ≡ length (numeral 10 n) + 1 + length rows = omega (arith, all .next-is, sheet-length) in
+      let z : next ≡ length (numeral 10 1 n) + 1 + length rows = omega (arith, all .next-is, sheet-length) in
       (ap done z ∙ sym (f .0), all .out-is ∙ put-front d t ∙ ap (λ (k : ℕ). t ++ drop k d) sheet-length ∙ sym (f .1))
 
 -- where the rows begin
-pub rows-place : (n : ℕ) (d : List ℕ) (at : ℕ) (mid : List ℕ) → Puts d 0 (numeral 10 n ++ (10 ∷ [])) at mid → at ≡ length (numeral 10 n) + 1
-rows-place n d at mid p = omega (arith, p .next-is, length-append (numeral 10 n) (10 ∷ []))
+pub rows-place : (n : ℕ) (d : List ℕ) (at : ℕ) (mid : List ℕ) → Puts d 0 (numeral 10 1 n ++ (10 ∷ [])) at mid → at ≡ length (numeral 10 1 n) + 1
+rows-place n d at mid p = omega (arith, p .next-is, length-append (numeral 10 1 n) (10 ∷ []))
 
 -- ---- the format's check
 module _ (F : NumberFormat) (o : Options) where

@@ -1,4 +1,4 @@
-// The check of a sheet's format: document 01, "1 to 4; 5, also for any digit limit; 6".
+// The check of a sheet's format: document 01, "1 to 4; 5, also for any digit limit; 6", and document 02, 16.
 ghost use mathlib.Core.Path.{_≡_};
 ghost use Rattle.lexical_util.specs.Answer.{done, andThen};
 ghost use Rattle.lexical_format.specs.Format.{settled, ofWritingCheck};
@@ -26,6 +26,7 @@ pub(crate) fn check_format(format: NumberFormat, options: Options) -> WritingChe
         min_significant_digits: options.min_significant_digits,
         positive_exponent_break: options.positive_exponent_break,
         negative_exponent_break: options.negative_exponent_break,
+        exponent_width: options.exponent_width,
         round_mode: mode,
         trim_floats: options.trim_floats,
         exponent: options.exponent,

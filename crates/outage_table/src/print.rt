@@ -76,9 +76,9 @@ pub(crate) fn put_row(
 
 // The count line: n in radix 10, and LF.
 pub(crate) fn put_count(sheet: &mut [u8], count: usize) -> usize
-    requires { ⌜ length (numeral 10 count) + 1 ≤ length (now sheet) ⌝ }
-    ensures { λ r. ⌜ Puts (now (sheet .entry)) 0 (numeral 10 count ++ (10 ∷ [])) r (now (sheet .exit)) ⌝ }
+    requires { ⌜ length (numeral 10 1 count) + 1 ≤ length (now sheet) ⌝ }
+    ensures { λ r. ⌜ Puts (now (sheet .entry)) 0 (numeral 10 1 count ++ (10 ∷ [])) r (now (sheet .exit)) ⌝ }
 {
-    let digits = put_number(sheet, 0, count as u64, 10);
+    let digits = put_number(sheet, 0, count as u64, 10, 1);
     put_byte(sheet, digits, b'\n')
 }

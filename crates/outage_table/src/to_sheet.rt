@@ -97,13 +97,13 @@ fn sheet_has_room(
 ) -> bool
     requires { ⌜ Admitted format options × (n ≤ mostWindows) × (length (now table) ≡ tableSize n)
         × (rowsFrom (now table) n 0 n ≡ done (contents (rowsFrom (now table) n 0 n))) ⌝ }
-    ensures { λ r. ⌜ r ≡ leb (length (numeral 10 n) + 1 + length (rowsOf format options (contents (rowsFrom (now (table .entry)) n 0 n)))) room ⌝ }
+    ensures { λ r. ⌜ r ≡ leb (length (numeral 10 1 n) + 1 + length (rowsOf format options (contents (rowsFrom (now (table .entry)) n 0 n)))) room ⌝ }
 {
     if room >= COUNT_LINE + LONGEST_ROW * n {
         return true;
     }
     match rows_length(table, n, format, options) {
-        Written::Length(rows) => digit_count(n as u64, 10) + 1 + rows <= room,
+        Written::Length(rows) => digit_count(n as u64, 10, 1) + 1 + rows <= room,
         Written::Refused(_) => false,
     }
 }
@@ -118,8 +118,8 @@ fn put_sheet(
 ) -> Written
     requires { ⌜ Admitted format options × (n ≤ mostWindows) × (length (now table) ≡ tableSize n)
         × (rowsFrom (now table) n 0 n ≡ done (contents (rowsFrom (now table) n 0 n))) ⌝ }
-    ensures { λ r. ⌜ ofWritten r ≡ written (done (numeral 10 n ++ (10 ∷ rowsOf format options (contents (rowsFrom (now (table .entry)) n 0 n))))) (now (sheet .entry)) ⌝ }
-    ensures { λ _. ⌜ now (sheet .exit) ≡ held (done (numeral 10 n ++ (10 ∷ rowsOf format options (contents (rowsFrom (now (table .entry)) n 0 n))))) (now (sheet .entry)) ⌝ }
+    ensures { λ r. ⌜ ofWritten r ≡ written (done (numeral 10 1 n ++ (10 ∷ rowsOf format options (contents (rowsFrom (now (table .entry)) n 0 n))))) (now (sheet .entry)) ⌝ }
+    ensures { λ _. ⌜ now (sheet .exit) ≡ held (done (numeral 10 1 n ++ (10 ∷ rowsOf format options (contents (rowsFrom (now (table .entry)) n 0 n))))) (now (sheet .entry)) ⌝ }
 {
     if sheet_has_room(table, n, sheet.len(), format, options) {
         let at = put_count(sheet, n);

@@ -11,7 +11,7 @@ use Rattle.lexical_buffer.proofs.number.put_decimal.Statement.{statemen
 use Rattle.lexical_buffer.proofs.number.put_decimal.Tie as tie
 
 -- the byte is the text that is asked for
-is : (c : tie.After-digit-byte) → digitsText (c .before .before .before .args .value) 10 ≡ done (c .digit-byte .result ∷ [])
+is : (c : tie.After-digit-byte) → digitsText (c .before .before .before .args .value) 10 1 ≡ done (c .digit-byte .result ∷ [])
 is c =
     let x = c .before .before .before .args .value in
     decimal-asked x ∙ sym (ap (λ (l : List ℕ). done l) (one-numeral 10 x (c .digit-byte .result) (c .before .if1 .taken) (omega arith) (c .digit-byte .ensures)))

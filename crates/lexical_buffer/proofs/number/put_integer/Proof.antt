@@ -10,28 +10,28 @@ use Rattle.lexical_buffer.proofs.number.put_integer.Statement.{statemen
 use Rattle.lexical_buffer.proofs.number.put_integer.Tie as tie
 
 returns : tie.Need-returns
-returns c = let a = c .before .before .args in let s = digits-past-end (a .value) (a .radix) (a .buffer .now) (a .at) (omega arith) in (sym (s .0), sym (s .1))
+returns c = let a = c .before .before .args in let s = digits-past-end (a .value) (a .radix) (a .width) (a .buffer .now) (a .at) (omega arith) in (sym (s .0), sym (s .1))
 
 add-result : tie.Need-add-result
 add-result c =
     let w = c .before .before .before .before .before in
     let a = w .before .before .before .before .args in
-    omega (arith, part-within (digitsText (a .value) (a .radix)) (a .buffer .now) (a .at) _ (omega arith) (sym (ap ofWritten (c .before .count .given .1)) ∙ w .write-integer .ensures .0))
+    omega (arith, part-within (digitsText (a .value) (a .radix) (a .width)) (a .buffer .now) (a .at) _ (omega arith) (sym (ap ofWritten (c .before .count .given .1)) ∙ w .write-integer .ensures .0))
 
 returns-2 : tie.Need-returns-2
 returns-2 c =
     let w = c .before .before .before .before .before in
     let a = w .before .before .before .before .args in (
-      part-answered (digitsText (a .value) (a .radix)) (a .buffer .now) (a .at) _ (sym (ap ofWritten (c .before .count .given .1)) ∙ w .write-integer .ensures .0),
-      part-held (digitsText (a .value) (a .radix)) (a .buffer .now) (a .at) _ (omega arith) (w .write-integer .ensures .1),
+      part-answered (digitsText (a .value) (a .radix) (a .width)) (a .buffer .now) (a .at) _ (sym (ap ofWritten (c .before .count .given .1)) ∙ w .write-integer .ensures .0),
+      part-held (digitsText (a .value) (a .radix) (a .width)) (a .buffer .now) (a .at) _ (omega arith) (w .write-integer .ensures .1),
     )
 
 returns-3 : tie.Need-returns-3
 returns-3 c =
     let w = c .before .before .before .before in
     let a = w .before .before .before .before .args in (
-      part-stays (digitsText (a .value) (a .radix)) (a .buffer .now) (a .at) _ _ (sym (ap ofWritten (c .enum-told .given .1)) ∙ w .write-integer .ensures .0),
-      part-held (digitsText (a .value) (a .radix)) (a .buffer .now) (a .at) _ (omega arith) (w .write-integer .ensures .1),
+      part-stays (digitsText (a .value) (a .radix) (a .width)) (a .buffer .now) (a .at) _ _ (sym (ap ofWritten (c .enum-told .given .1)) ∙ w .write-integer .ensures .0),
+      part-held (digitsText (a .value) (a .radix) (a .width)) (a .buffer .now) (a .at) _ (omega arith) (w .write-integer .ensures .1),
     )
 
 pub put-integer-spec : {M : Type 1} → statement M

@@ -17,7 +17,7 @@ use Rattle.lexical_buffer.proofs.number.put_two_digits.Tie as tie
 abbrev text : tie.After-lies-within → List ℕ
 text c = (c .before .before .digit-byte .result ∷ []) ++ (c .before .digit-byte2 .result ∷ [])
 
-asked : (c : tie.After-lies-within) → digitsText (c .before .before .before .before .args .value) 10 ≡ done (text c)
+asked : (c : tie.After-lies-within) → digitsText (c .before .before .before .before .args .value) 10 1 ≡ done (text c)
 asked c =
     let s = c .before .before .before .before in
     decimal-asked (s .args .value) ∙ sym (ap (λ (l : List ℕ). done l) (two-numeral (s .args .value) _ _ (s .pre .0) (s .pre .1) (c .before .before .digit-byte .ensures) (c .before .digit-byte2 .ensures)))

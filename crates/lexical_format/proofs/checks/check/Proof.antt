@@ -1,4 +1,4 @@
--- `lexical_format::checks::check` meets its contract: the writer's check is the reader's, then its own three. Assumes nothing.
+-- `lexical_format::checks::check` meets its contract: the writer's check is the reader's, then its own four. Assumes nothing.
 use mathlib.Core.Path.{sym, ap, _∙_}
 use borrow.Author.Needs.{needs}
 use Rattle.lexical_format.specs.Format.{ofReadingCheck}

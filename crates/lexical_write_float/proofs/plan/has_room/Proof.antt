@@ -22,7 +22,7 @@ returns : tie.Need-returns
 returns c D point mark e =
     let s = c .before .before .before in
     let a = s .args in
-    let few = text-few point (a .plan) D (a .layout) mark (a .exponent .0) (a .plus) (a .radix) (a .exponent .1) (omega (arith, s .pre .1 .leading-few, e)) (omega (arith, s .pre .0, e)) (s .pre .2) (s .pre .3) in
+    let few = text-few point (a .plan) D (a .layout) mark (a .exponent .0) (a .plus) (a .radix) (a .width) (a .exponent .1) (omega (arith, s .pre .1 .leading-few, e)) (omega (arith, s .pre .0, e)) (s .pre .2) (s .pre .3) (s .pre .4) in
     sym (le-leb _ (a .room) (omega (arith, few, c .if1 .taken)))
 
 planned-length-requires : tie.Need-planned-length-requires

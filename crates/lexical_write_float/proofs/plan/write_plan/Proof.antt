@@ -17,7 +17,7 @@ abbrev front : tie.Start → List ℕ
 front c = let a = c .args in planText (a .options .«decimal_point») (a .plan) (digitsOf (a .digits))
 
 abbrev tail : tie.Start → List ℕ
-tail c = let a = c .args in tailText (a .layout) (a .options .exponent) (a .exponent .0) (a .format .«required_exponent_sign») (a .format .«exponent_radix») (a .exponent .1)
+tail c = let a = c .args in tailText (a .layout) (a .options .exponent) (a .exponent .0) (a .format .«required_exponent_sign») (a .format .«exponent_radix») (a .options .«exponent_width») (a .exponent .1)
 
 -- whether the text has room
 decided : (c : tie.After-has-room) → (let s = c .before .before in c .has-room .result ≡ leb (length (front s ++ tail s)) (length (s .args .buffer .now)))
@@ -27,10 +27,10 @@ room : (c : tie.Else1) → (let s = c .before .before .before in length (front s
 room c = leb-true _ _ (sym (decided (c .before)) ∙ not-false _ (c .if1 .left))
 
 has-room-requires : tie.Need-has-room-requires
-has-room-requires c κs = let s = c .before in (s .pre .0 .few, s .pre .1, s .pre .2, s .pre .3)
+has-room-requires c κs = let s = c .before in (s .pre .0 .few, s .pre .1, s .pre .2, s .pre .3, s .pre .4)
 
 planned-length-requires : tie.Need-planned-length-requires
-planned-length-requires c κs = let s = c .before .before .before in (s .pre .0 .few, s .pre .1, s .pre .2, s .pre .3)
+planned-length-requires c κs = let s = c .before .before .before in (s .pre .0 .few, s .pre .1, s .pre .2, s .pre .3, s .pre .4)
 
 returns : tie.Need-returns
 returns c =
@@ -49,7 +49,7 @@ write-exponent-requires c κs =
     let p = c .before .before .before in
     let e = p .before .before in
     let s = e .before .before .before in
-    (s .pre .2, omega (arith, room e, length-append (front s) (tail s), p .put-plan .ensures .next-is))
+    (s .pre .2, s .pre .3, omega (arith, room e, length-append (front s) (tail s), p .put-plan .ensures .next-is))
 
 same-length : tie.Need-same-length
 same-length c = search needs

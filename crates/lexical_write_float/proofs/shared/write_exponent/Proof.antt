@@ -16,8 +16,8 @@ use Rattle.lexical_write_float.proofs.shared.write_exponent.Tie as tie
 abbrev start : tie.After-enum-told → tie.Start
 start c = c .before .before .before
 
-room : (c : tie.After-enum-told) → let a = start c .args in a .at + (1 + length (signText (a .exponent .0) (a .plus)) + length (numeral (a .radix) (a .exponent .1))) ≤ length (a .buffer .now)
-room c = let a = start c .args in omega (arith, start c .pre .1, tail-length (a .layout) (a .mark) (a .exponent .0) (a .plus) (a .radix) (a .exponent .1) (c .enum-told .given .1))
+room : (c : tie.After-enum-told) → let a = start c .args in a .at + (1 + length (signText (a .exponent .0) (a .plus)) + length (numeral (a .radix) (a .width) (a .exponent .1))) ≤ length (a .buffer .now)
+room c = let a = start c .args in omega (arith, start c .pre .2, tail-length (a .layout) (a .mark) (a .exponent .0) (a .plus) (a .radix) (a .width) (a .exponent .1) (c .enum-told .given .1))
 
 enum-told : tie.Need-enum-told
 enum-told c = search needs
@@ -30,13 +30,13 @@ write-exponent-sign-requires c κs = let p = c .before .before .before in omega 
 
 -- the digits have room behind mark and sign
 number-put : (i : tie.After-put-number) → let g = i .before .before .before .before in let a = start (g .before .before .before .before .before .before) .args in
-    Puts (g .write-exponent-sign .last .0) (g .write-exponent-sign .result) (numeral (a .radix) (a .exponent .1)) (i .put-number .result) (i .put-number .last .0)
+    Puts (g .write-exponent-sign .last .0) (g .write-exponent-sign .result) (numeral (a .radix) (a .width) (a .exponent .1)) (i .put-number .result) (i .put-number .last .0)
 number-put i =
     let g = i .before .before .before .before in
     let p = g .before .before .before .before in
     let t = p .before .before in
     let a = start t .args in
-    number-puts (a .radix) (a .exponent .1) (start t .pre .0) (g .write-exponent-sign .last .0) (g .write-exponent-sign .result) _ _ (omega (arith, room t, mark-put p .next-is, g .write-exponent-sign .ensures .next-is)) (i .put-number .ensures)
+    number-puts (a .radix) (a .width) (a .exponent .1) (start t .pre .0) (start t .pre .1) (g .write-exponent-sign .last .0) (g .write-exponent-sign .result) _ _ (omega (arith, room t, mark-put p .next-is, g .write-exponent-sign .ensures .next-is)) (i .put-number .ensures)
 
 enum-told-2 : tie.Need-enum-told-2
 enum-told-2 c = search needs

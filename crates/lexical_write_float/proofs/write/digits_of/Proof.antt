@@ -7,7 +7,7 @@ use Rattle.lexical_write_integer_spec.specs.Digits.{numeral}
 use Rattle.lexical_exponent.specs.Exponent.{modulo}
 use Rattle.lexical_write_float_spec.specs.Value.{exactDigits}
 use Rattle.lexical_write_integer_spec.proofs.DigitsAnswer.{log-known}
-use Rattle.lexical_write_integer_spec.proofs.DigitsLaws.{length-numeral}
+use Rattle.lexical_write_integer_spec.proofs.NumeralLaws.{length-one}
 use Rattle.lexical_write_float_spec.proofs.ValueLaws.{exact-few}
 use Rattle.lexical_write_float.proofs.TextLaws.{shift-below, shift-fits}
 use borrow.Author.Needs.{needs}
@@ -45,9 +45,9 @@ returns c =
     let k = c .before .before in
     let s = k .before .before in
     let a = s .args in
-    let n : c .digit-log .result ≡ length (numeral (2 ^ a .bits-per-digit) (shifted k)) = c .digit-log .ensures ∙ log-known _ _ (s .pre .0) ∙ sym (length-numeral (2 ^ a .bits-per-digit) (shifted k)) in
-    let same = ap (numeral (2 ^ a .bits-per-digit)) (shift-is k) in
-    let few : length (numeral (2 ^ a .bits-per-digit) (a .value .mantissa * 2 ^ modulo (a .value .exponent .0) (a .bits-per-digit))) ≤ 64 = exact-few (a .bits-per-digit) (a .value .mantissa) (a .value .exponent .0) (s .pre .0) (s .pre .1) (s .pre .2) in
+    let n : c .digit-log .result ≡ length (numeral (2 ^ a .bits-per-digit) 1 (shifted k)) = c .digit-log .ensures ∙ log-known _ _ (s .pre .0) ∙ sym (length-one (2 ^ a .bits-per-digit) (shifted k)) in
+    let same = ap (numeral (2 ^ a .bits-per-digit) 1) (shift-is k) in
+    let few : length (numeral (2 ^ a .bits-per-digit) 1 (a .value .mantissa * 2 ^ modulo (a .value .exponent .0) (a .bits-per-digit))) ≤ 64 = exact-few (a .bits-per-digit) (a .value .mantissa) (a .value .exponent .0) (s .pre .0) (s .pre .1) (s .pre .2) in
     (same, record { some-bits = s .pre .0; few-bits = s .pre .1; count-is = n; few = rw (n, same) few; small = rw (shift-fits (a .value .mantissa) (k .calculate-shl .result) (s .pre .2) (short k)) (shift-below (a .value .mantissa) (k .calculate-shl .result) (s .pre .2) (short k)) })
 
 pub digits-of-spec : {M : Type 1} → statement M

@@ -86,7 +86,7 @@ write-plan-requires c κs =
     let p = b .before in
     let d = placed p in
     let s = start d in
-    (d .place-by-bits .ensures .counted, p .plan-of .ensures .small, format-known s .power-radix, rw (b .base-exponent .ensures .1 .0) (power-few (s .args .checked .b) (s .args .checked .c) (d .place-by-bits .result .p .0) (format-known s .few-bits) (near d)))
+    (d .place-by-bits .ensures .counted, p .plan-of .ensures .small, format-known s .power-radix, format-known s .power-width, rw (b .base-exponent .ensures .1 .0) (power-few (s .args .checked .b) (s .args .checked .c) (d .place-by-bits .result .p .0) (format-known s .few-bits) (near d)))
 
 same-length : tie.Need-same-length
 same-length c = search needs
@@ -99,7 +99,7 @@ returns c =
     let d = placed p in
     let s = start d in
     let a = s .args in
-    let tail : List ℕ = tailText (p .before .choose-layout .result) (a .options .exponent) (b .base-exponent .result .0) (a .format .«required_exponent_sign») (a .format .«exponent_radix») (b .base-exponent .result .1) in
+    let tail : List ℕ = tailText (p .before .choose-layout .result) (a .options .exponent) (b .base-exponent .result .0) (a .format .«required_exponent_sign») (a .format .«exponent_radix») (a .options .«exponent_width») (b .base-exponent .result .1) in
     let same : body p ++ tail ≡ whole s = ap (λ (t : List ℕ). t ++ tail) (planned p) ∙ laid-text _ _ _ _ _ _ _ _ _ (laid p) _ _ (b .base-exponent .ensures .0) (b .base-exponent .ensures .1 .0) in
     (w .write-plan .ensures .0 ∙ ap length same, w .write-plan .ensures .1 ∙ ap (λ (t : List ℕ). held (done t) (a .buffer .now)) same)
 

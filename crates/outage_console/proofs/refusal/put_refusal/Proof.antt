@@ -5,7 +5,7 @@ use mathlib.Core.List.{[], _∷_}
 use native.Mathlib.Omega.{arith}
 use borrow.Author.Needs.{needs}
 use lib.ListN.{length}
-use Rattle.lexical_util.specs.Digit.{isRadix}
+use Rattle.lexical_util.specs.Digit.{isRadix, isWidth}
 use Rattle.lexical_write_integer_spec.specs.Digits.{numeral}
 use Rattle.lexical_buffer.specs.Put.{Puts}
 use Rattle.lexical_buffer.proofs.PutLaws.{puts-more, text-puts}
@@ -19,7 +19,7 @@ use Rattle.outage_console.proofs.refusal.put_refusal.Tie as tie
 abbrev start : tie.After-put-number → tie.Start
 start c2 = c2 .before .before .before .before .before .before .before .before .before
 
-short : (c2 : tie.After-put-number) → let a = start c2 .args in (length (numeral 10 (a .refusal .number)) ≤ 10) × (length (numeral 10 (a .refusal .place)) ≤ 20)
+short : (c2 : tie.After-put-number) → let a = start c2 .args in (length (numeral 10 1 (a .refusal .number)) ≤ 10) × (length (numeral 10 1 (a .refusal .place)) ≤ 20)
 short c2 = let k = c2 .before .struct-known .given in line-short _ _ (k .0 .fits) (k .1 .0 .fits)
 
 -- "refused ", the number, " at ", the place
@@ -28,11 +28,11 @@ refused-put : (c1 : tie.After-put-bytes) → let a = c1 .before .before .before 
 refused-put c1 = let a = c1 .before .before .before .before .args in text-puts (a .out .now) 0 _ _ _ (omega arith) (c1 .put-bytes .ensures)
 
 number-put : (c2 : tie.After-put-number) → let c1 = c2 .before .before .before .before .before in
-    Puts (c1 .put-bytes .last .0) (c1 .put-bytes .result) (numeral 10 (start c2 .args .refusal .number)) (c2 .put-number .result) (c2 .put-number .last .0)
-unfolding isRadix
+    Puts (c1 .put-bytes .last .0) (c1 .put-bytes .result) (numeral 10 1 (start c2 .args .refusal .number)) (c2 .put-number .result) (c2 .put-number .last .0)
+unfolding isRadix isWidth
 number-put c2 =
     let c1 = c2 .before .before .before .before .before in
-    number-puts 10 (start c2 .args .refusal .number) refl (c1 .put-bytes .last .0) (c1 .put-bytes .result) _ _ (omega (arith, short c2, refused-put c1 .next-is)) (c2 .put-number .ensures)
+    number-puts 10 1 (start c2 .args .refusal .number) refl refl (c1 .put-bytes .last .0) (c1 .put-bytes .result) _ _ (omega (arith, short c2, refused-put c1 .next-is)) (c2 .put-number .ensures)
 
 at-put : (c3 : tie.After-put-bytes2) → let c2 = c3 .before .before .before .before .before in
     Puts (c2 .put-number .last .0) (c2 .put-number .result) (32 ∷ 97 ∷ 116 ∷ 32 ∷ []) (c3 .put-bytes2 .result) (c3 .put-bytes2 .last .0)
@@ -42,13 +42,13 @@ at-put c3 =
     text-puts (c2 .put-number .last .0) (c2 .put-number .result) _ _ _ (omega (arith, short c2, refused-put c1 .next-is, number-put c2 .next-is)) (c3 .put-bytes2 .ensures)
 
 place-put : (c4 : tie.After-put-number2) → let c3 = c4 .before .before .before .before in let c2 = c3 .before .before .before .before .before in
-    Puts (c3 .put-bytes2 .last .0) (c3 .put-bytes2 .result) (numeral 10 (start c2 .args .refusal .place)) (c4 .put-number2 .result) (c4 .put-number2 .last .0)
-unfolding isRadix
+    Puts (c3 .put-bytes2 .last .0) (c3 .put-bytes2 .result) (numeral 10 1 (start c2 .args .refusal .place)) (c4 .put-number2 .result) (c4 .put-number2 .last .0)
+unfolding isRadix isWidth
 place-put c4 =
     let c3 = c4 .before .before .before .before in
     let c2 = c3 .before .before .before .before .before in
     let c1 = c2 .before .before .before .before .before in
-    number-puts 10 (start c2 .args .refusal .place) refl (c3 .put-bytes2 .last .0) (c3 .put-bytes2 .result) _ _ (omega (arith, short c2, refused-put c1 .next-is, number-put c2 .next-is, at-put c3 .next-is)) (c4 .put-number2 .ensures)
+    number-puts 10 1 (start c2 .args .refusal .place) refl refl (c3 .put-bytes2 .last .0) (c3 .put-bytes2 .result) _ _ (omega (arith, short c2, refused-put c1 .next-is, number-put c2 .next-is, at-put c3 .next-is)) (c4 .put-number2 .ensures)
 
 returns : tie.Need-returns
 unfolding refusalLine

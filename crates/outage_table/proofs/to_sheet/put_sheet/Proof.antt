@@ -17,7 +17,7 @@ sheet-has-room-requires c κs = search needs
 
 -- there is room
 fits : (c : tie.Then1) → let a = c .before .before .before .before .args in
-    length (numeral 10 (a .n)) + 1 + length (rowsOf (a .format) (a .options) (contents (rowsFrom (a .table .now) (a .n) 0 (a .n)))) ≤ length (a .sheet .now)
+    length (numeral 10 1 (a .n)) + 1 + length (rowsOf (a .format) (a .options) (contents (rowsFrom (a .table .now) (a .n) 0 (a .n)))) ≤ length (a .sheet .now)
 fits c = leb-true _ _ (sym (c .before .sheet-has-room .ensures) ∙ c .if1 .taken)
 
 put-count-requires : tie.Need-put-count-requires

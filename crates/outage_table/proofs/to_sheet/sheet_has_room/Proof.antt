@@ -33,7 +33,7 @@ enum-known-rows c = search needs
 digit-count-requires : tie.Need-digit-count-requires
 digit-count-requires c κs = tt
 
-counted : (c : tie.After-digit-count) → let n = c .before .before .before .before .before .before .before .args .n in (c .digit-count .result ≡ length (numeral 10 n)) × (c .digit-count .result ≤ 3)
+counted : (c : tie.After-digit-count) → let n = c .before .before .before .before .before .before .before .args .n in (c .digit-count .result ≡ length (numeral 10 1 n)) × (c .digit-count .result ≤ 3)
 counted c =
     let s = c .before .before .before .before .before .before .before in
     let d = count-digits (s .args .n) (s .pre .1) in
