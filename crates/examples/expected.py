@@ -17,20 +17,46 @@ RADICES = (2, 4, 8, 10, 16, 32)
 
 # ---- integer digits
 
+def integer(value, radix, width, room):
+    """The refusal's number, or the text."""
+    if radix not in RADICES:
+        return 2
+    if not 1 <= width <= 4:
+        return 16
+    text = digits(value, radix, width)
+    return text if len(text) <= room else 8
+
+
+def digits_asked(value, radix, width, room):
+    answer = integer(value, radix, width, room)
+    shown = f"refused {answer} at 0" if isinstance(answer, int) else answer
+    text = "" if isinstance(answer, int) else answer
+    return f"{radix} {value} {'' if width == 1 else f'width {width} '}{shown}", text
+
+
+def digits_line(value, radix, width):
+    return digits_asked(value, radix, width, 64)[0]
+
+
+def room_lines(value, radix, width):
+    for room in (6, 4, 3, 2, 1, 0):
+        line, text = digits_asked(value, radix, width, room)
+        yield f"{line} [{text.ljust(room, '.')}]"
+
+
 def digit_lines():
     for value in (0, 1, 31, 32, 1023, 1024, 2**64 - 1):
         for radix in RADICES:
-            yield f"{radix} {value} {digits(value, radix)}"
+            yield digits_line(value, radix, 1)
     for value, radix in ((0, 2), (1024, 10), (255, 16), (1024, 32), (5, 0), (5, 3), (5, 64)):
-        for room in (6, 4, 3, 2, 1, 0):
-            lent = "." * room
-            if radix not in RADICES:
-                yield f"{radix} {value} refused 2 at 0 [{lent}]"
-            elif len(digits(value, radix)) > room:
-                yield f"{radix} {value} refused 8 at 0 [{lent}]"
-            else:
-                text = digits(value, radix)
-                yield f"{radix} {value} {text} [{text}{lent[len(text):]}]"
+        yield from room_lines(value, radix, 1)
+    for value in (0, 31, 1000):
+        for width in (0, 2, 3, 4, 5):
+            for radix in RADICES:
+                yield digits_line(value, radix, width)
+        yield digits_line(value, 3, 0)
+    for width in (3, 0):
+        yield from room_lines(5, 10, width)
 
 
 # ---- floats: stored bits of the mantissa, bias, and how Python unpacks the bits
@@ -143,6 +169,7 @@ class Case:
     radix, base, exponent_radix = 16, 2, 10
     required = forbidden = sign = fraction = trim = truncate = False
     least = most = low = high = 0
+    width = 1
     point, mark = ord("."), ord("^")
 
     def __init__(self, **fields):
@@ -171,6 +198,8 @@ class Case:
             return 5
         if not -2000 <= (self.low or -5) <= -1 or not 1 <= (self.high or 9) <= 2000:
             return 6
+        if not 1 <= self.width <= 4:
+            return 16
         return None
 
     def line(self, name):
@@ -180,6 +209,13 @@ class Case:
         b, c = PAIRS.get((self.radix, self.base), (0, 0))
         bits = f"b {b} c {c}"
         return f"{name}: write {answer(self.writing(), f'{bits} breaks {self.low or -5} {self.high or 9}')}, read {answer(self.reading(), bits)}"
+
+
+# a fault more each time, the last of the checks first
+FAULTS = (
+    (16, {"width": 0}), (6, {"high": -1}), (5, {"least": 1201}), (4, {"required": True, "forbidden": True}), (3, {"mark": ord(".")}),
+    (2, {"exponent_radix": 3}), (1, {"base": 3}),
+)
 
 
 def format_lines():
@@ -202,13 +238,14 @@ def format_lines():
         yield Case(least=least, most=most).line(f"least {least} most {most}")
     for low, high in ((-2001, 0), (-2000, 0), (-1, 0), (1, 0), (0, 1), (0, 2000), (0, 2001), (0, -1), (-6, 10), (-(2**31), 2**31 - 1)):
         yield Case(low=low, high=high).line(f"low {low} high {high}")
+    for width in (0, 1, 4, 5, big):
+        yield Case(width=width).line(f"width {width}")
     case = Case()
-    for name, fields in (
-        ("6", {"high": -1}), ("5, 6", {"least": 1201}), ("4, 5, 6", {"required": True, "forbidden": True}), ("3, 4, 5, 6", {"mark": ord(".")}),
-        ("2, 3, 4, 5, 6", {"exponent_radix": 3}), ("1, 2, 3, 4, 5, 6", {"base": 3}),
-    ):
+    numbers = "16"
+    for number, fields in FAULTS:
         vars(case).update(fields)
-        yield case.line(name)
+        numbers = f"{number}, {numbers}" if number != 16 else numbers
+        yield case.line(numbers)
 
 
 # ---- texts
@@ -220,6 +257,7 @@ def label(case):
     words += [f"{name} {getattr(case, name)}" for name in ("point", "mark") if getattr(case, name) != getattr(Case, name)]
     words += [name for name in ("trim", "truncate") if getattr(case, name)]
     words += [f"{name} {getattr(case, name)}" for name in ("least", "most", "low", "high") if getattr(case, name)]
+    words += [f"width {case.width}"] if case.width != 1 else []
     return " ".join(words)
 
 
@@ -262,6 +300,11 @@ def text_lines():
         for fields in ({}, {"least": 5}, {"least": 5, "trim": True}, {"trim": True}):
             yield from both(0, 0, at(2, 2, 2, **flags, **fields))
     yield from limit_lines()
+    for width in range(6):
+        for bits in (wide["1024"], wide["2^-6"], 1):
+            yield text_line("f64", bits, at(16, 2, 10, width=width))
+        yield from both(*ONE_AND_A_HALF, at(16, 2, 10, width=width))
+        yield from both(0, 0, at(16, 2, 10, required=True, sign=True, width=width))
     for room in (4096, 2275, 2274):
         yield text_line("f64", 1, at(2, 2, 2, forbidden=True, least=1200), room)
     yield from refusal_lines()
@@ -296,7 +339,7 @@ def refusal_lines():
         for room in (3, 2, 0):
             yield text_line(width, bits_of(width, 0.5), at(16, 16, 16), room)
     case = Case()
-    for fields in ({}, {"high": -1}, {"least": 1201}, {"required": True, "forbidden": True}, {"mark": ord(".")}, {"exponent_radix": 3}, {"base": 3}):
+    for fields in ({}, *(fields for _, fields in FAULTS)):
         vars(case).update(fields)
         yield from both(bits_of("f64", -1.5), bits_of("f32", -1.5), case, 0)
 

@@ -1,16 +1,17 @@
-"""The text of a value by document 01's "Digit limit" and "Layout", in whole numbers and fractions, for `expected.py`."""
+"""The text of a value by document 01's "Digit limit" and "Layout" and document 02's 2.2, in whole numbers and fractions, for `expected.py`."""
 from fractions import Fraction
 
 DIGITS = "0123456789ABCDEFGHIJKLMNOPQRSTUV"
 
 
-def digits(value, radix):
+def digits(value, radix, width):
+    """With zeros in front up to the least width."""
     text = ""
     while True:
         value, d = divmod(value, radix)
         text = DIGITS[d] + text
         if value == 0:
-            return text
+            return text.rjust(width, "0")
 
 
 def leading(value):
@@ -30,7 +31,7 @@ def exact(value, b):
     """D: the digits from the first nonzero one to the last nonzero one; "0" for zero."""
     while value.denominator != 1:
         value *= 2**b
-    return digits(int(value), 2**b).rstrip("0") or "0"
+    return digits(int(value), 2**b, 1).rstrip("0") or "0"
 
 
 def text(value, b, c, case):
@@ -53,7 +54,7 @@ def text(value, b, c, case):
             body = D + point + (zeros(1) or "0")
         assert p * b % c == 0
         sign = "-" if p < 0 else "+" if case.sign else ""
-        return body + chr(case.mark) + sign + digits(abs(p * b // c), case.exponent_radix)
+        return body + chr(case.mark) + sign + digits(abs(p * b // c), case.exponent_radix, case.width)
     if s < 0:
         return "0" + point + "0" * (-p - 1) + D + zeros(len(D))
     places = p + 1

@@ -45,6 +45,7 @@ def sheet_checks(f):
     yield 4, f.required and f.forbidden
     yield 5, f.least > 1200 or f.most > 1200 or (f.least and f.most and f.least > f.most) or f.most != 0
     yield 6, not -2000 <= (f.low or -5) <= -1 or not 1 <= (f.high or 9) <= 2000
+    yield 16, not 1 <= f.width <= 4
 
 
 # ---- table to sheet
@@ -116,8 +117,8 @@ def to_table(f, sheet, room):
 
 # ---- lines
 
-NAMES = "radix base exponent_radix required forbidden sign fraction point mark trim truncate least most low high".split()
-PRINTED = dict(zip(NAMES, (16, 2, 10, 1, 0, 0, 0, 46, 112, 0, 0, 0, 0, 0, 0)))
+NAMES = "radix base exponent_radix required forbidden sign fraction point mark trim truncate least most low high width".split()
+PRINTED = dict(zip(NAMES, (16, 2, 10, 1, 0, 0, 0, 46, 112, 0, 0, 0, 0, 0, 0, 1)))
 
 
 def answered(call, f, given, room):
@@ -131,7 +132,7 @@ def answered(call, f, given, room):
 def table_line(table, room=32768, **changed):
     fields = {**PRINTED, **changed}
     numbers = " ".join(str(fields[name]) for name in NAMES)
-    return f"T {numbers} 1 {room} {table.hex() or '-'}\t{answered(to_sheet, SimpleNamespace(**fields), table, room)}"
+    return f"T {numbers} {room} {table.hex() or '-'}\t{answered(to_sheet, SimpleNamespace(**fields), table, room)}"
 
 
 def sheet_line(sheet, room=32768, **changed):
@@ -195,6 +196,7 @@ def sheets():
     for end in (b"F.FFFFFFFFFFFF8p1020", b"F.FFFFFFFFFFFF8Fp1020", b"F.FFFFFFFFFFFFBFFFp1020", b"F.FFFFFFFFFFFFCp1020"):
         yield b"1\n1.0p0 " + end + b"\n"
         yield b"1\n" + end + b" " + end + b"\n"
+    yield from (b"1\n1.0p00 1.8p0000\n", b"1\n1.0p-0001 1.8p+000001\n", b"01\n1.0p00 1.8p00\n")
     yield b"1\n" + b"0" * 4095 + b"1 " + b"0" * 4095 + b"1\n"
     yield b"1\n" + b"0" * 4096 + b"1 1\n"
     yield b"1\n1 " + b"0" * 4096 + b"1\n"
@@ -211,6 +213,12 @@ def lines():
         yield table_line(small[:-1], **changed)
     for room in (0, 13, 14, 15):
         yield table_line(small, room)
+    for width in range(6):
+        yield table_line(small, width=width)
+        yield table_line(small[:-1], width=width)
+        yield table_line(small, width=width, low=1)
+        yield table_line(table(2, 40, 0, 1, 0x7FEFFFFFFFFFFFFF, 0x7FEFFFFFFFFFFFFF), width=width)
+        yield table_line(many(12), width=width)
     full = many(400)
     sheet = to_sheet(SimpleNamespace(**PRINTED), full, 32768)
     yield table_line(full, len(sheet))
@@ -235,7 +243,7 @@ def again(name):
         kind, *fields = case.split(" ")
         data = b"" if fields[-1] == "-" else bytes.fromhex(fields[-1])
         if kind == "T":
-            f, call, room = SimpleNamespace(**dict(zip(NAMES, map(int, fields[:15])))), to_sheet, int(fields[16])
+            f, call, room = SimpleNamespace(**dict(zip(NAMES, map(int, fields[:16])))), to_sheet, int(fields[16])
         else:
             f, call, room = SimpleNamespace(**dict(zip(("radix", "base", "exponent_radix", "point", "mark"), map(int, fields[:5])))), to_table, int(fields[5])
         same += answered(call, f, data, room) == wanted

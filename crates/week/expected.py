@@ -15,7 +15,7 @@ import layout
 
 DEFAULT = dict(
     exponent_radix=10, required=False, forbidden=False, sign=False, fraction=False, point=ord("."), mark=ord("^"),
-    trim=False, truncate=False, least=0, most=0, low=0, high=0,
+    trim=False, truncate=False, least=0, most=0, low=0, high=0, width=1,
 )
 
 
@@ -27,8 +27,8 @@ def tuesday(value):
     return text(value, 4, 1, mark=ord("p"), required=True)
 
 
-def wednesday(value):
-    return text(value, 5, 5)
+def wednesday(value, width=1):
+    return text(value, 5, 5, width=width)
 
 
 def thursday(value):
@@ -59,12 +59,15 @@ def main():
         print(f"{name}: {thursday(Fraction(value))} {bits:x}")
     # the first station and 100,000 more, Thursday's format and Wednesday's in turn
     print(f"100001 stations: {wednesday(Fraction.from_float(float.fromhex('0x1.921FB54442D18p1')))}")
+    for name, last in (("width 4", wednesday(Fraction(1024), 4)), ("widths 4 and 1", thursday(Fraction(1024))), ("widths 4, 1 and 3", wednesday(Fraction(1024), 3))):
+        print(f"{name}: {last}")
     for name, answer in (
         ("no text", "station 0, reading: refused 9 at 0"),
         ("a wrong byte", "station 0, reading: refused 9 at 3"),
         ("an exponent of 32,768", "station 0, reading: refused 10 at 3"),
         ("too large", "station 0, reading: refused 11 at 0"),
         ("1,201 digits", "station 0, writing: refused 5 at 0"),
+        ("width 0", "station 0, writing: refused 16 at 0"),
         ("a record cut off behind its base", "station 2, writing: refused 2 at 0"),
         ("a record cut off before its mark", "station 1, writing: refused 3 at 0"),
         ("a buffer a byte too short", "station 1, writing: refused 8 at 0"),

@@ -21,13 +21,14 @@ pub(crate) fn format() -> NumberFormat {
     }
 }
 
-// Point ".", mark "^", all else absent.
+// Point ".", mark "^", exponents in width 1, all else absent.
 pub(crate) fn options() -> Options {
     Options {
         max_significant_digits: 0,
         min_significant_digits: 0,
         positive_exponent_break: 0,
         negative_exponent_break: 0,
+        exponent_width: 1,
         round_mode: RoundMode::Round,
         trim_floats: false,
         exponent: b'^',
@@ -139,6 +140,14 @@ fn breaks_line(low: i32, high: i32) {
     answers(format(), o);
 }
 
+fn width_line(width: u32) {
+    let mut o = options();
+    o.exponent_width = width;
+    print::text(b"width ");
+    print::number(width as u64);
+    answers(format(), o);
+}
+
 fn each_base(radix: u32) {
     pair_line(radix, 0);
     pair_line(radix, 2);
@@ -223,28 +232,39 @@ fn breaks() {
     breaks_line(-2147483648, 2147483647);
 }
 
+fn widths() {
+    width_line(0);
+    width_line(1);
+    width_line(4);
+    width_line(5);
+    width_line(4294967295);
+}
+
 // The first of several refusals is the answer.
 fn order() {
     let mut f = format();
     let mut o = options();
+    o.exponent_width = 0;
+    print::text(b"16");
+    answers(f, o);
     o.positive_exponent_break = -1;
-    print::text(b"6");
+    print::text(b"6, 16");
     answers(f, o);
     o.min_significant_digits = 1201;
-    print::text(b"5, 6");
+    print::text(b"5, 6, 16");
     answers(f, o);
     f.required_exponent_notation = true;
     f.no_exponent_notation = true;
-    print::text(b"4, 5, 6");
+    print::text(b"4, 5, 6, 16");
     answers(f, o);
     o.exponent = b'.';
-    print::text(b"3, 4, 5, 6");
+    print::text(b"3, 4, 5, 6, 16");
     answers(f, o);
     f.exponent_radix = 3;
-    print::text(b"2, 3, 4, 5, 6");
+    print::text(b"2, 3, 4, 5, 6, 16");
     answers(f, o);
     f.exponent_base = 3;
-    print::text(b"1, 2, 3, 4, 5, 6");
+    print::text(b"1, 2, 3, 4, 5, 6, 16");
     answers(f, o);
 }
 
@@ -258,5 +278,6 @@ pub(crate) fn run() {
     notation_line(true, true);
     counts();
     breaks();
+    widths();
     order();
 }

@@ -79,6 +79,10 @@ fn print_options(o: Options) {
     print_count(b" most ", o.max_significant_digits);
     print_break(b" low ", o.negative_exponent_break);
     print_break(b" high ", o.positive_exponent_break);
+    if o.exponent_width != 1 {
+        print::text(b" width ");
+        print::number(o.exponent_width as u64);
+    }
 }
 
 // A text, or its length alone where it would fill more than a line.
@@ -190,6 +194,7 @@ fn limited(most: u32, mode: RoundMode) -> Options {
         min_significant_digits: o.min_significant_digits,
         positive_exponent_break: o.positive_exponent_break,
         negative_exponent_break: o.negative_exponent_break,
+        exponent_width: o.exponent_width,
         round_mode: mode,
         trim_floats: o.trim_floats,
         exponent: o.exponent,
@@ -260,6 +265,20 @@ fn limits() {
     wide(0x7fef_ffff_ffff_ffff, mixed, one);
     wide(0x7fef_ffff_ffff_ffff, mixed, cut);
     narrow(0x7f7f_ffff, mixed, one);
+}
+
+// 1,024 and 2^-6, whose exponents have one digit, and the least float, whose exponent has more; an exponent of zero; and a text without one.
+fn width(width: u32) {
+    let mut o = formats::options();
+    o.exponent_width = width;
+    let mut f = format(16, 2, 10);
+    wide(0x4090_0000_0000_0000, f, o);
+    wide(0x3f90_0000_0000_0000, f, o);
+    wide(1, f, o);
+    both(f, o);
+    f.required_exponent_notation = true;
+    f.required_exponent_sign = true;
+    zeros(f, o);
 }
 
 // 2^-1074 in radix 2 without an exponent and with 1,200 digits, which no other text passes, and bytes too few for it.
@@ -360,6 +379,8 @@ fn refused_first() {
     let mut f = formats::format();
     let mut o = formats::options();
     nowhere(f, o);
+    o.exponent_width = 0;
+    nowhere(f, o);
     o.positive_exponent_break = -1;
     nowhere(f, o);
     o.min_significant_digits = 1201;
@@ -384,6 +405,12 @@ pub(crate) fn run() {
     worked();
     zero();
     limits();
+    width(0);
+    width(1);
+    width(2);
+    width(3);
+    width(4);
+    width(5);
     longest();
     refused_formats();
     refused_options();

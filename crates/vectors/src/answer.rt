@@ -3,6 +3,7 @@ use crate::fields;
 use crate::numbers;
 use crate::numbers::Number;
 use lexical_util::Refusal;
+use lexical_util::Written;
 
 // A number is the length of a text, or the bits of a float. A NaN, which no line has, is told apart: its bits are not defined.
 pub(crate) enum Answer {
@@ -30,6 +31,29 @@ pub(crate) fn refusal(s: &[u8]) -> Answer {
         number: number as u32,
         place: place as usize,
     })
+}
+
+// `length text`, the text with as many bytes as the length says, and not empty; or a refusal.
+pub(crate) fn of_text(s: &[u8]) -> Answer {
+    if fields::is_word(s, 0, b"refused") {
+        return refusal(s);
+    }
+    let Number::Plain(length) = numbers::field(s, 0, false) else {
+        return Answer::Malformed;
+    };
+    let start = fields::start_of(s, 1);
+    if length == 0 || length != (s.len() - start) as u64 {
+        return Answer::Malformed;
+    }
+    Answer::Number(length)
+}
+
+// What a call that writes answered.
+pub(crate) fn written(answer: Written) -> Answer {
+    match answer {
+        Written::Length(n) => Answer::Number(n as u64),
+        Written::Refused(refusal) => Answer::Refused(refusal),
+    }
 }
 
 pub(crate) fn is_malformed(answer: Answer) -> bool {

@@ -27,7 +27,7 @@ fn round_mode(truncate: bool) -> RoundMode {
     RoundMode::Round
 }
 
-// Point and mark from one field on; from another whether to trim and to truncate, the least and the most digits, and the breaks, the lower first.
+// Point and mark from one field on; from another whether to trim and to truncate, the least and the most digits, the breaks, the lower first, and an exponent's width. A line that reads has none of these, so that its format has the width 0: no reading may refuse it.
 pub(crate) fn options_in(s: &[u8], point: usize, trim: usize) -> Options
     requires { ⌜ (point < 32) × (trim < 32) ⌝ }
 {
@@ -36,6 +36,7 @@ pub(crate) fn options_in(s: &[u8], point: usize, trim: usize) -> Options
         min_significant_digits: numbers::count(s, trim + 2),
         positive_exponent_break: numbers::int(s, trim + 5),
         negative_exponent_break: numbers::int(s, trim + 4),
+        exponent_width: numbers::count(s, trim + 6),
         round_mode: round_mode(numbers::flag(s, trim + 1)),
         trim_floats: numbers::flag(s, trim),
         exponent: numbers::byte(s, point + 1),

@@ -3,6 +3,7 @@ ghost use mathlib.Core.Path.{_≡_};
 ghost use lib.ListN.{length};
 
 mod answer;
+mod digits;
 mod fields;
 mod format;
 mod hex;

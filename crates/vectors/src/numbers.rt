@@ -24,17 +24,23 @@ pub(crate) fn digit_of(byte: u8, hex: bool) -> u64
     }
 }
 
-fn with_digit(value: u64, digit: u64, hex: bool) -> u64
-    requires { ⌜ (value < 2 ^ 59) × (digit < 16) ⌝ }
+fn with_digit(value: u64, digit: u64, hex: bool) -> Number
+    requires { ⌜ digit < 16 ⌝ }
 {
+    let left = 0xffff_ffff_ffff_ffff - digit;
     if hex {
-        value * 16 + digit
-    } else {
-        value * 10 + digit
+        if value > left / 16 {
+            return Number::Malformed;
+        }
+        return Number::Plain(value * 16 + digit);
     }
+    if value > left / 10 {
+        return Number::Malformed;
+    }
+    Number::Plain(value * 10 + digit)
 }
 
-// The number of some digits. None of a list has 2^63 or more, so that a longer one is malformed.
+// The number of some digits, malformed where a u64 does not hold it.
 pub(crate) fn digits(s: &[u8], hex: bool) -> Number {
     if s.len() == 0 {
         return Number::Malformed;
@@ -46,10 +52,10 @@ pub(crate) fn digits(s: &[u8], hex: bool) -> Number {
         if digit == 16 {
             return Number::Malformed;
         }
-        if value >= 0x0800_0000_0000_0000 {
+        let Number::Plain(next) = with_digit(value, digit, hex) else {
             return Number::Malformed;
-        }
-        value = with_digit(value, digit, hex);
+        };
+        value = next;
         i += 1;
     }
     Number::Plain(value)

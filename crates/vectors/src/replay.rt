@@ -1,6 +1,7 @@
 // A list's lines through the compiled calls.
 ghost use Prim.Native.Nat.{_+_, _-_, _^_, _≤_, _<_};
 ghost use Rattle.vectors.specs.Counts.{Counts};
+use crate::digits;
 use crate::fields;
 use crate::print;
 use crate::reading;
@@ -14,6 +15,7 @@ use crate::writing;
 const SHOWN: usize = 5;
 
 enum Kind {
+    Digits,
     Reading,
     Sheet,
     Writing,
@@ -21,6 +23,9 @@ enum Kind {
 
 // What a line asks for, by its first word. One without such a word is a writing line.
 fn kind_of(input: &[u8]) -> Kind {
+    if fields::is_word(input, 0, b"D") {
+        return Kind::Digits;
+    }
     if fields::is_word(input, 0, b"R") {
         return Kind::Reading;
     }
@@ -32,6 +37,7 @@ fn kind_of(input: &[u8]) -> Kind {
 
 fn judge(input: &[u8], answer: &[u8]) -> Verdict {
     match kind_of(input) {
+        Kind::Digits => digits::judge(input, answer),
         Kind::Reading => reading::judge(input, answer),
         Kind::Sheet => sheets::judge(input, answer),
         Kind::Writing => writing::judge(input, answer),
@@ -41,6 +47,7 @@ fn judge(input: &[u8], answer: &[u8]) -> Verdict {
 // What the call of a line that differs answered: it is made again.
 fn show_given(input: &[u8], room: usize) {
     match kind_of(input) {
+        Kind::Digits => digits::show(input),
         Kind::Reading => reading::show(input),
         Kind::Sheet => sheets::show(input),
         Kind::Writing => writing::show(input, room),

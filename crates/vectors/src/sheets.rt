@@ -1,4 +1,4 @@
-// A line that turns a table into a sheet or back. `T`, the fifteen fields of a format from radix to high break, 1, how many bytes are lent, and the table; or `S`, radix, base, exponent radix, point, mark, how many bytes are lent, and the sheet. For an answer a length and the bytes, or a refusal. A table's bytes are any, so those lent hold a byte more than once: every one past the answer is looked at.
+// A line that turns a table into a sheet or back. `T`, the sixteen fields of a format from radix to width, how many bytes are lent, and the table; or `S`, radix, base, exponent radix, point, mark, how many bytes are lent, and the sheet. For an answer a length and the bytes, or a refusal. A table's bytes are any, so those lent hold a byte more than once: every one past the answer is looked at.
 ghost use mathlib.Core.Path.{_≡_};
 ghost use Prim.Native.Nat.{_≤_};
 ghost use lib.ListN.{length};
@@ -13,7 +13,6 @@ use crate::numbers;
 use crate::numbers::Number;
 use crate::print;
 use crate::tally::Verdict;
-use lexical_util::Written;
 use outage_sheet::sheet_to_table;
 use outage_table::table_to_sheet;
 
@@ -24,13 +23,6 @@ fn space() -> [u8; ROOM]
     ensures { λ r. ⌜ 32768 ≡ length r ⌝ }
 {
     [lent::FILL; ROOM]
-}
-
-fn answered(written: Written) -> Answer {
-    match written {
-        Written::Length(n) => Answer::Number(n as u64),
-        Written::Refused(refusal) => Answer::Refused(refusal),
-    }
 }
 
 fn is_table(input: &[u8]) -> bool {
@@ -48,11 +40,11 @@ fn call(input: &[u8], bytes: &[u8], out: &mut [u8]) -> Answer {
     if is_table(input) {
         let format = format::format_in(input, 1, 4);
         let options = format::options_in(input, 8, 10);
-        return answered(table_to_sheet(bytes, format, options, out));
+        return answer::written(table_to_sheet(bytes, format, options, out));
     }
     let format = format::format_in(input, 1, 8);
     let options = format::options_in(input, 4, 8);
-    answered(sheet_to_table(bytes, format, options, out))
+    answer::written(sheet_to_table(bytes, format, options, out))
 }
 
 // The place of the number of bytes lent; the bytes of the table or of the sheet are the next field.

@@ -1,4 +1,4 @@
-// A line that writes, 17 numbers: width, bits, radix, base, exponent radix, four flags, point, mark, whether to trim and to truncate, the least and the most digits and two breaks; and for an answer a text behind its length, or a refusal. Each call lends 4,096 bytes, just enough, and one byte less.
+// A line that writes: width, bits, radix, base, exponent radix, four flags, point, mark, whether to trim and to truncate, the least and the most digits, two breaks and an exponent's width, which is 1 where the line lacks it; and for an answer a text behind its length, or a refusal. Each call lends 4,096 bytes, just enough, and one byte less.
 ghost use mathlib.Core.Path.{_≡_};
 ghost use lib.ListN.{length};
 use crate::answer;
@@ -8,11 +8,10 @@ use crate::format;
 use crate::kinds;
 use crate::lent;
 use crate::numbers;
-use crate::numbers::Number;
 use crate::print;
 use crate::tally::Verdict;
+use lexical_format::Options;
 use lexical_util::Refusal;
-use lexical_util::Written;
 use lexical_write_float::write_f32;
 use lexical_write_float::write_f64;
 
@@ -28,6 +27,8 @@ const FLAGS: usize = 5;
 const POINT: usize = 9;
 
 const TRIM: usize = 11;
+
+const HIGH: usize = 16;
 
 const ROOM: usize = 4096;
 
@@ -66,19 +67,20 @@ fn float_of(input: &[u8]) -> Float {
     f32_of(bits)
 }
 
-fn answered(written: Written) -> Answer {
-    match written {
-        Written::Length(n) => Answer::Number(n as u64),
-        Written::Refused(refusal) => Answer::Refused(refusal),
+fn options_of(input: &[u8]) -> Options {
+    let mut options = format::options_in(input, POINT, TRIM);
+    if fields::is_last(input, HIGH) {
+        options.exponent_width = 1;
     }
+    options
 }
 
 fn call(input: &[u8], out: &mut [u8]) -> Answer {
     let format = format::format_in(input, RADIX, FLAGS);
-    let options = format::options_in(input, POINT, TRIM);
+    let options = options_of(input);
     match float_of(input) {
-        Float::F64(x) => answered(write_f64(x, format, options, out)),
-        Float::F32(x) => answered(write_f32(x, format, options, out)),
+        Float::F64(x) => answer::written(write_f64(x, format, options, out)),
+        Float::F32(x) => answer::written(write_f32(x, format, options, out)),
         Float::Malformed => Answer::Malformed,
     }
 }
@@ -127,29 +129,19 @@ fn judge_refusal(input: &[u8], refusal: Refusal) -> Verdict {
     Verdict::Differs(ROOM)
 }
 
-// `length text`, the text with as many bytes as the length says, and not empty; or a refusal.
-fn answer_of(s: &[u8]) -> Answer {
-    if fields::is_word(s, 0, b"refused") {
-        return answer::refusal(s);
-    }
-    let Number::Plain(length) = numbers::field(s, 0, false) else {
-        return Answer::Malformed;
-    };
-    let start = fields::start_of(s, 1);
-    if length == 0 || length != (s.len() - start) as u64 {
-        return Answer::Malformed;
-    }
-    Answer::Number(length)
+fn are_fields(input: &[u8]) -> bool {
+    kinds::are_fields(b"wxnnnffffbbffnniin", input)
+        || kinds::are_fields(b"wxnnnffffbbffnnii", input)
 }
 
 pub(crate) fn judge(input: &[u8], answer: &[u8]) -> Verdict {
-    if !kinds::are_fields(b"wxnnnffffbbffnnii", input) {
+    if !are_fields(input) {
         return Verdict::Malformed;
     }
     if let Float::Malformed = float_of(input) {
         return Verdict::Malformed;
     }
-    match answer_of(answer) {
+    match answer::of_text(answer) {
         Answer::Number(_) => {
             let start = fields::start_of(answer, 1);
             judge_text(input, &answer[start..])

@@ -1,4 +1,4 @@
-// A chain of 100,001 stations, and chains that are refused, each with the station, and with what the lent bytes hold then.
+// A chain of 100,001 stations, one whose stations have exponents of three widths, and chains that are refused, each with the station, and with what the lent bytes hold then.
 ghost use Prim.Native.Nat.{_<_};
 use crate::floats;
 use crate::formats;
@@ -16,7 +16,7 @@ fn space() -> [u8; LONG] {
 }
 
 fn at(pattern: &[u8; TWO_RECORDS], i: usize) -> u8
-    requires { ⌜ i < 38 ⌝ }
+    requires { ⌜ i < 40 ⌝ }
 {
     pattern[i]
 }
@@ -56,6 +56,26 @@ fn long() {
     print::text(b"\n");
 }
 
+// The text of 1,024, read under a format of width 0, which a reading ignores.
+fn widened(name: &[u8], further: &[u8]) {
+    let mut out = floats::room();
+    let from = formats::widened(formats::tuesday(), 0);
+    let first = formats::widened(formats::wednesday(), 4);
+    let answer = chain_f64(b"4.0p8", from, first, further, &mut out);
+    print::text(name);
+    print::text(b": ");
+    print::chained(answer, &out);
+    print::text(b"\n");
+}
+
+// Widths 4, 1 and 3: what stands behind each of the stations.
+fn widths() {
+    let records = formats::RECORDS;
+    widened(b"width 4", b"");
+    widened(b"widths 4 and 1", &records[0..RECORD_SIZE]);
+    widened(b"widths 4, 1 and 3", &records);
+}
+
 fn refused(name: &[u8], text: &[u8], first: TextFormat, further: &[u8], out: &mut [u8]) {
     let answer = chain_f64(text, formats::tuesday(), first, further, out);
     print::text(name);
@@ -68,6 +88,7 @@ fn refused(name: &[u8], text: &[u8], first: TextFormat, further: &[u8], out: &mu
 // With the text 1.8p0, or a text that is refused; with all records or the first bytes of them; and at the end with a buffer that is too short.
 pub(crate) fn run() {
     long();
+    widths();
     let records = formats::RECORDS;
     let first = formats::wednesday();
     let mut out = floats::room();
@@ -89,10 +110,17 @@ pub(crate) fn run() {
         &mut out,
     );
     refused(
+        b"width 0",
+        b"1.8p0",
+        formats::widened(first, 0),
+        &records,
+        &mut out,
+    );
+    refused(
         b"a record cut off behind its base",
         b"1.8p0",
         first,
-        &records[0..21],
+        &records[0..RECORD_SIZE + 2],
         &mut out,
     );
     refused(

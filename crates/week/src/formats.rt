@@ -5,7 +5,7 @@ use lexical_format::RoundMode;
 use lexical_rewrite::RECORD_SIZE;
 use lexical_rewrite_spec::TextFormat;
 
-// Exponent radix 10, point ".", all else default.
+// Exponent radix 10, exponents in width 1, point ".", all else default.
 fn text_format(radix: u32, base: u32, mark: u8, required: bool, most: u32) -> TextFormat {
     TextFormat {
         format: NumberFormat {
@@ -22,6 +22,7 @@ fn text_format(radix: u32, base: u32, mark: u8, required: bool, most: u32) -> Te
             min_significant_digits: 0,
             positive_exponent_break: 0,
             negative_exponent_break: 0,
+            exponent_width: 1,
             round_mode: RoundMode::Round,
             trim_floats: false,
             exponent: mark,
@@ -50,9 +51,16 @@ pub(crate) fn limited(most: u32) -> TextFormat {
     text_format(32, 32, b'^', false, most)
 }
 
+// A format with exponents in a width.
+pub(crate) fn widened(format: TextFormat, width: u32) -> TextFormat {
+    let mut wide = format;
+    wide.options.exponent_width = width;
+    wide
+}
+
 pub(crate) const TWO_RECORDS: usize = 2 * RECORD_SIZE;
 
-// Thursday's format as a station's record, then Wednesday's.
+// Thursday's format as a station's record, then Wednesday's with exponents in width 3.
 pub(crate) const RECORDS: [u8; TWO_RECORDS] = [
     2,
     2,
@@ -71,6 +79,7 @@ pub(crate) const RECORDS: [u8; TWO_RECORDS] = [
     0,
     0,
     0,
+    1,
     46,
     101,
     32,
@@ -90,6 +99,7 @@ pub(crate) const RECORDS: [u8; TWO_RECORDS] = [
     0,
     0,
     0,
+    3,
     46,
     94,
 ];
