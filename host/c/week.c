@@ -15,6 +15,7 @@ static lexical_format format(uint32_t radix, uint32_t base) {
         .mantissa_radix = radix,
         .exponent_base = base,
         .exponent_radix = 10,
+        .exponent_width = 1,
     };
 }
 

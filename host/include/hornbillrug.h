@@ -35,7 +35,7 @@ extern "C" {
 #define OUTAGE_LONGEST_TABLE (8 + 16 * OUTAGE_MOST_WINDOWS)
 
 /* A format: a pair of radix and base, an exponent radix, flags and options. Zero is absent in the two
- * counts and the two breaks. */
+ * counts and the two breaks, and not in exponent_width: there a call that writes refuses it, by 16. */
 typedef struct {
     bool required_exponent_notation;
     bool no_exponent_notation;
@@ -52,6 +52,7 @@ typedef struct {
     int32_t positive_exponent_break;
     int32_t negative_exponent_break;
     uint32_t exponent_radix;
+    uint32_t exponent_width; /* the least digits of an exponent, 1 to 4; ignored in reading */
 } lexical_format;
 
 /* The value is the length written. */
@@ -84,8 +85,10 @@ typedef struct {
     size_t value;
 } lexical_station_answer;
 
-/* The digits of a number in radix 2, 4, 8, 10, 16 or 32. */
-lexical_answer lexical_write_integer(uint64_t value, uint32_t radix, uint8_t *buffer, size_t length);
+/* The digits of a number in radix 2, 4, 8, 10, 16 or 32, with zeros in front up to the least width,
+ * 1 to 4. */
+lexical_answer lexical_write_integer(uint64_t value, uint32_t radix, uint32_t width,
+                                     uint8_t *buffer, size_t length);
 
 /* The text of a float. */
 lexical_answer lexical_write_f64(double x, lexical_format format, uint8_t *buffer, size_t length);
@@ -120,7 +123,7 @@ lexical_answer outage_table_to_sheet(const uint8_t *table, size_t table_length,
 lexical_answer outage_sheet_to_table(const uint8_t *sheet, size_t sheet_length,
                                      lexical_format format, uint8_t *table, size_t length);
 
-#define LEXICAL_RECORD 19
+#define LEXICAL_RECORD 20
 
 /* A format's record, for a chain. A number that does not fit its bytes becomes the greatest or least
  * that does; such a format is refused, and its record with the same number. */
@@ -146,8 +149,9 @@ static inline void lexical_format_record(lexical_format format, uint8_t record[L
         record[13 + 2 * i] = (uint8_t)at;
         record[14 + 2 * i] = (uint8_t)(at >> 8);
     }
-    record[17] = format.decimal_point;
-    record[18] = format.exponent;
+    record[17] = (uint8_t)(format.exponent_width > UINT8_MAX ? UINT8_MAX : format.exponent_width);
+    record[18] = format.decimal_point;
+    record[19] = format.exponent;
 }
 
 #ifdef __cplusplus

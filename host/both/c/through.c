@@ -22,6 +22,7 @@ const size_t through_format[] = {
     FIELD(lexical_format, positive_exponent_break),
     FIELD(lexical_format, negative_exponent_break),
     FIELD(lexical_format, exponent_radix),
+    FIELD(lexical_format, exponent_width),
 };
 const size_t through_answer[] = {
     sizeof(lexical_answer),
@@ -54,9 +55,9 @@ const size_t through_limits[] = {
     OUTAGE_LONGEST_SHEET, OUTAGE_LONGEST_TABLE, LEXICAL_RECORD,
 };
 
-void through_write_integer(uint64_t value, uint32_t radix, uint8_t *buffer, size_t length,
-                           lexical_answer *answer) {
-    *answer = lexical_write_integer(value, radix, buffer, length);
+void through_write_integer(uint64_t value, uint32_t radix, uint32_t width, uint8_t *buffer,
+                           size_t length, lexical_answer *answer) {
+    *answer = lexical_write_integer(value, radix, width, buffer, length);
 }
 
 void through_write_f64(double x, const lexical_format *format, uint8_t *buffer, size_t length,

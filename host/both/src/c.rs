@@ -13,13 +13,13 @@ use crate::{Calls, Rewritten, Written};
 pub struct C;
 
 extern "C" {
-    pub static through_format: [usize; 31];
+    pub static through_format: [usize; 33];
     pub static through_answer: [usize; 7];
     pub static through_answer_f64: [usize; 7];
     pub static through_answer_f32: [usize; 7];
     pub static through_station_answer: [usize; 11];
     pub static through_limits: [usize; 6];
-    fn through_write_integer(v: u64, radix: u32, p: *mut u8, n: usize, answer: *mut Answer);
+    fn through_write_integer(v: u64, r: u32, w: u32, p: *mut u8, n: usize, answer: *mut Answer);
     fn through_write_f64(x: f64, f: &Format, p: *mut u8, n: usize, answer: *mut Answer);
     fn through_write_f32(x: f32, f: &Format, p: *mut u8, n: usize, answer: *mut Answer);
     fn through_read_f64(t: *const u8, tn: usize, f: &Format, answer: *mut AnswerF64);
@@ -116,9 +116,9 @@ fn rewritten(a: StationAnswer) -> Rewritten {
 
 // SAFETY of each call: pointers and lengths are those of one slice, and each stores an answer.
 impl Calls for C {
-    fn write_integer(value: u64, radix: u32, b: &mut [u8]) -> Written {
+    fn write_integer(value: u64, radix: u32, width: u32, b: &mut [u8]) -> Written {
         written(unsafe {
-            stored(|a| through_write_integer(value, radix, b.as_mut_ptr(), b.len(), a))
+            stored(|a| through_write_integer(value, radix, width, b.as_mut_ptr(), b.len(), a))
         })
     }
     fn write_f64(x: f64, format: &Format, b: &mut [u8]) -> Written {

@@ -14,7 +14,7 @@ pub type Rewritten = Result<usize, StationRefusal>;
 
 /// Every call, by the one way or the other.
 pub trait Calls {
-    fn write_integer(value: u64, radix: u32, buffer: &mut [u8]) -> Written;
+    fn write_integer(value: u64, radix: u32, width: u32, buffer: &mut [u8]) -> Written;
     fn write_f64(x: f64, format: &Format, buffer: &mut [u8]) -> Written;
     fn write_f32(x: f32, format: &Format, buffer: &mut [u8]) -> Written;
     fn read_f64(text: &[u8], format: &Format) -> Result<f64, Refusal>;

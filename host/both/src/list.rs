@@ -55,8 +55,9 @@ fn refusal(answer: &str) -> Option<Refusal> {
     Some(Refusal { number: number(number_field), place: number(place) })
 }
 
-/// Pair, exponent radix, flags, point, mark, trim, mode, least, most and breaks: 15 fields.
-fn format_of_15(f: &[&str]) -> Format {
+/// Pair, exponent radix, flags, point, mark, trim, mode, least, most and breaks: 15 fields. One more
+/// is an exponent's least width, which is 1 without it.
+fn writing_format(f: &[&str]) -> Format {
     Format {
         required_exponent_notation: flag(f[3]),
         no_exponent_notation: flag(f[4]),
@@ -69,14 +70,17 @@ fn format_of_15(f: &[&str]) -> Format {
         max_significant_digits: number(f[12]),
         negative_exponent_break: number(f[13]),
         positive_exponent_break: number(f[14]),
+        exponent_width: f.get(15).map_or(1, |field| number(field)),
         ..Format::new(number(f[0]), number(f[1]), number(f[2]), number(f[8]))
     }
 }
 
-/// Pair, exponent radix, point and mark: 5 fields.
-fn format_of_5(f: &[&str]) -> Format {
+/// Pair, exponent radix, point and mark: 5 fields. The width is one that no writing call takes, since
+/// a reading call must not look at it.
+fn reading_format(f: &[&str]) -> Format {
     Format {
         decimal_point: number(f[3]),
+        exponent_width: 0,
         ..Format::new(number(f[0]), number(f[1]), number(f[2]), number(f[4]))
     }
 }
@@ -99,7 +103,7 @@ pub fn writing(file: &str) -> Vec<Writing> {
     lines(file, |f, answer| Writing {
         width: number(f[0]),
         bits: u64::from_str_radix(f[1], 16).expect("bits"),
-        format: format_of_15(&f[2..]),
+        format: writing_format(&f[2..]),
         answer: match refusal(answer) {
             Some(refusal) => Err(refusal),
             None => {
@@ -116,7 +120,7 @@ pub fn reading(file: &str) -> Vec<Reading> {
     lines(file, |f, answer| Reading {
         width: number(f[1]),
         text: bytes(f[2]),
-        format: format_of_5(&f[3..]),
+        format: reading_format(&f[3..]),
         answer: match refusal(answer) {
             Some(refusal) => Err(refusal),
             None => Ok(u64::from_str_radix(answer, 16).expect("bits")),
@@ -128,8 +132,8 @@ pub fn reading(file: &str) -> Vec<Reading> {
 pub fn sheets(file: &str) -> Vec<Sheet> {
     lines(file, |f, answer| {
         let (is_table, format, rest) = match f[0] {
-            "T" => (true, format_of_15(&f[1..]), &f[17..]),
-            _ => (false, format_of_5(&f[1..]), &f[6..]),
+            "T" => (true, writing_format(&f[1..17]), &f[17..]),
+            _ => (false, reading_format(&f[1..]), &f[6..]),
         };
         Sheet {
             is_table,

@@ -65,8 +65,8 @@ pub fn sum(x: f64, y: f64) -> f64 {
 pub struct Inside<T>(PhantomData<T>);
 
 impl<T: Calls> Calls for Inside<T> {
-    fn write_integer(value: u64, radix: u32, buffer: &mut [u8]) -> Written {
-        inside(|| T::write_integer(value, radix, buffer))
+    fn write_integer(value: u64, radix: u32, width: u32, buffer: &mut [u8]) -> Written {
+        inside(|| T::write_integer(value, radix, width, buffer))
     }
     fn write_f64(x: f64, format: &Format, buffer: &mut [u8]) -> Written {
         inside(|| T::write_f64(x, format, buffer))

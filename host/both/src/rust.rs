@@ -8,8 +8,8 @@ use crate::{Calls, Rewritten, Written};
 pub struct Rust;
 
 impl Calls for Rust {
-    fn write_integer(value: u64, radix: u32, buffer: &mut [u8]) -> Written {
-        hornbillrug::write_integer(value, radix, buffer)
+    fn write_integer(value: u64, radix: u32, width: u32, buffer: &mut [u8]) -> Written {
+        hornbillrug::write_integer(value, radix, width, buffer)
     }
     fn write_f64(x: f64, format: &Format, buffer: &mut [u8]) -> Written {
         hornbillrug::write_f64(x, format, buffer)

@@ -40,6 +40,7 @@ fn format() {
         positive_exponent_break,
         negative_exponent_break,
         exponent_radix,
+        exponent_width,
     );
     // SAFETY: a constant array of the C file.
     assert_eq!(rust, unsafe { c::through_format });

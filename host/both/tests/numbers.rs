@@ -15,12 +15,12 @@ over_both!(
     long_texts
 );
 
-/// The digits by repeated division, with no code of the library.
-fn digits_of(mut value: u64, radix: u64) -> Vec<u8> {
-    let mut digits = vec![b"0123456789ABCDEFGHIJKLMNOPQRSTUV"[(value % radix) as usize]];
-    while value >= radix {
-        value /= radix;
+/// The digits by repeated division, at least so many, with no code of the library.
+fn digits_of(mut value: u64, radix: u64, width: usize) -> Vec<u8> {
+    let mut digits = Vec::new();
+    while value > 0 || digits.len() < width {
         digits.push(b"0123456789ABCDEFGHIJKLMNOPQRSTUV"[(value % radix) as usize]);
+        value /= radix;
     }
     digits.reverse();
     digits
@@ -31,8 +31,11 @@ fn digits<T: Calls>() {
         let powers = (0..64).flat_map(|k| [(1 << k) - 1, 1 << k, (1u64 << k) | 1]);
         let tens = (0..20).flat_map(|k| [10u64.pow(k) - 1, 10u64.pow(k)]);
         for value in powers.chain(tens).chain([u64::MAX, u64::MAX - 1]) {
-            let text = digits_of(value, radix);
-            expect_text(&text, 9, SHORT, |b| T::write_integer(value, radix as u32, b));
+            for width in 1..=4 {
+                let text = digits_of(value, radix, width);
+                let call = |b: &mut [u8]| T::write_integer(value, radix as u32, width as u32, b);
+                expect_text(&text, 9, SHORT, call);
+            }
         }
     }
 }
@@ -40,8 +43,8 @@ fn digits<T: Calls>() {
 fn digits_refused<T: Calls>() {
     for radix in [0, 1, 3, 5, 9, 11, 15, 17, 31, 33, 64, 256 + 16, u32::MAX] {
         let refused = Refusal { number: 2, place: 0 };
-        expect(64, Err(refused), |b| T::write_integer(255, radix, b));
-        expect(0, Err(refused), |b| T::write_integer(255, radix, b));
+        expect(64, Err(refused), |b| T::write_integer(255, radix, 1, b));
+        expect(0, Err(refused), |b| T::write_integer(255, radix, 1, b));
     }
 }
 

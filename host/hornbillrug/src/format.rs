@@ -37,15 +37,30 @@ pub struct Format {
     pub negative_exponent_break: i32,
     /// The radix of the exponent's own digits.
     pub exponent_radix: u32,
+    /// The least digits of an exponent, 1 to 4; zeros fill up to them. Zero is not absent here: a call
+    /// that writes refuses it by 16. A call that reads ignores the width.
+    pub exponent_width: u32,
 }
 
 /// The bytes of a format's record.
-pub const RECORD_SIZE: usize = 19;
+pub const RECORD_SIZE: usize = 20;
 /// A format as bytes, in which a chain takes its further stations.
 pub type Record = [u8; RECORD_SIZE];
 
 impl Format {
-    /// A pair, an exponent radix and a mark, with the point "." and all else off or absent.
+    /// A pair, an exponent radix and a mark, with the point ".", an exponent's least width 1 and all
+    /// else off or absent.
+    ///
+    /// ```
+    /// use hornbillrug::{write_f64, Format};
+    ///
+    /// let hex = Format { required_exponent_notation: true, ..Format::new(16, 2, 10, b'p') };
+    /// assert_eq!(hex.exponent_width, 1);
+    /// let wide = Format { exponent_width: 3, ..hex };
+    /// let mut buffer = [0; 7];
+    /// assert_eq!(write_f64(1.5, &wide, &mut buffer), Ok(7));
+    /// assert_eq!(&buffer, b"1.8p000");
+    /// ```
     pub const fn new(radix: u32, base: u32, exponent_radix: u32, mark: u8) -> Format {
         Format {
             required_exponent_notation: false,
@@ -63,6 +78,7 @@ impl Format {
             positive_exponent_break: 0,
             negative_exponent_break: 0,
             exponent_radix,
+            exponent_width: 1,
         }
     }
 
@@ -97,6 +113,7 @@ impl Format {
             high[1],
             low[0],
             low[1],
+            byte(self.exponent_width),
             self.decimal_point,
             self.exponent,
         ]

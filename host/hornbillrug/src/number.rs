@@ -12,18 +12,31 @@ impl raw::Answer {
     }
 }
 
-/// Writes the digits of a number in radix 2, 4, 8, 10, 16 or 32, and answers their count.
+/// Writes the digits of a number in radix 2, 4, 8, 10, 16 or 32, with zeros in front up to the least
+/// width, 1 to 4, and answers their count.
 ///
-/// Refusals: 2, 8.
+/// Refusals: 2, 16, 8.
+///
+/// ```
+/// let mut buffer = [0; 4];
+/// assert_eq!(hornbillrug::write_integer(31, 16, 4, &mut buffer), Ok(4));
+/// assert_eq!(&buffer, b"001F");
+/// ```
 #[inline]
-pub fn write_integer(value: u64, radix: u32, buffer: &mut [u8]) -> Result<usize, Refusal> {
+pub fn write_integer(
+    value: u64,
+    radix: u32,
+    width: u32,
+    buffer: &mut [u8],
+) -> Result<usize, Refusal> {
+    let (pointer, length) = (buffer.as_mut_ptr(), buffer.len());
     // SAFETY: pointer and length are those of one slice.
-    unsafe { raw::lexical_write_integer(value, radix, buffer.as_mut_ptr(), buffer.len()) }.length()
+    unsafe { raw::lexical_write_integer(value, radix, width, pointer, length) }.length()
 }
 
 /// Writes a float's text, and answers its length, which is at most [`LONGEST_TEXT`](crate::LONGEST_TEXT).
 ///
-/// Refusals: 1 to 6 for the format, 7 for a float that is negative, -0 too, or not finite, 8.
+/// Refusals: 1 to 6 and 16 for the format, 7 for a float that is negative, -0 too, or not finite, 8.
 #[inline]
 pub fn write_f64(x: f64, format: &Format, buffer: &mut [u8]) -> Result<usize, Refusal> {
     // SAFETY: pointer and length are those of one slice.

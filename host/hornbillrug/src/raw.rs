@@ -59,7 +59,13 @@ pub struct StationAnswer {
 
 #[allow(missing_docs)]
 extern "C" {
-    pub fn lexical_write_integer(value: u64, radix: u32, buffer: *mut u8, length: usize) -> Answer;
+    pub fn lexical_write_integer(
+        value: u64,
+        radix: u32,
+        width: u32,
+        buffer: *mut u8,
+        length: usize,
+    ) -> Answer;
     pub fn lexical_write_f64(x: f64, format: Format, buffer: *mut u8, length: usize) -> Answer;
     pub fn lexical_write_f32(x: f32, format: Format, buffer: *mut u8, length: usize) -> Answer;
     pub fn lexical_read_f64(text: *const u8, text_length: usize, format: Format) -> AnswerF64;

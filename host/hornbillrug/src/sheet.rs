@@ -6,8 +6,8 @@ use crate::{Format, Refusal};
 /// Writes the sheet of a table, and answers its length, which is at most
 /// [`LONGEST_SHEET`](crate::LONGEST_SHEET).
 ///
-/// Refusals: 1 to 6 for the format, where 5 is any digit limit too; 13; 7 and 14 with the row's index
-/// for the place; 8.
+/// Refusals: 1 to 6 and 16 for the format, where 5 is any digit limit too; 13; 7 and 14 with the row's
+/// index for the place; 8.
 #[inline]
 pub fn table_to_sheet(table: &[u8], format: &Format, sheet: &mut [u8]) -> Result<usize, Refusal> {
     // SAFETY: each pointer and length are those of one slice; `sheet` is borrowed alone.
