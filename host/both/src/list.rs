@@ -8,6 +8,16 @@ use std::str::FromStr;
 
 use hornbillrug::{Format, Refusal};
 
+/// A number whose digits are to be written, its radix, their least width, the bytes lent, and the
+/// digits or a refusal.
+pub struct Digits {
+    pub value: u64,
+    pub radix: u32,
+    pub width: u32,
+    pub room: usize,
+    pub answer: Result<Vec<u8>, Refusal>,
+}
+
 /// A float to be written under a format, and its text or refusal.
 pub struct Writing {
     pub width: u32,
@@ -55,6 +65,16 @@ fn refusal(answer: &str) -> Option<Refusal> {
     Some(Refusal { number: number(number_field), place: number(place) })
 }
 
+/// What a length, a space and a text say, or a refusal.
+fn text_or_refusal(answer: &str) -> Result<Vec<u8>, Refusal> {
+    if let Some(refusal) = refusal(answer) {
+        return Err(refusal);
+    }
+    let (length, text) = answer.split_once(' ').expect("a length");
+    assert_eq!(number::<usize>(length), text.len());
+    Ok(text.into())
+}
+
 /// Pair, exponent radix, flags, point, mark, trim, mode, least, most and breaks: 15 fields. One more
 /// is an exponent's least width, which is 1 without it.
 fn writing_format(f: &[&str]) -> Format {
@@ -98,20 +118,24 @@ fn lines<T>(file: &str, read: impl Fn(&[&str], &str) -> T) -> Vec<T> {
         .collect()
 }
 
+/// A list of numbers whose digits are to be written: the answer is their count, a space and the digits.
+pub fn digits(file: &str) -> Vec<Digits> {
+    lines(file, |f, answer| Digits {
+        value: number(f[1]),
+        radix: number(f[2]),
+        width: number(f[3]),
+        room: number(f[4]),
+        answer: text_or_refusal(answer),
+    })
+}
+
 /// A list of floats to be written: the answer is the length, a space and the text.
 pub fn writing(file: &str) -> Vec<Writing> {
     lines(file, |f, answer| Writing {
         width: number(f[0]),
         bits: u64::from_str_radix(f[1], 16).expect("bits"),
         format: writing_format(&f[2..]),
-        answer: match refusal(answer) {
-            Some(refusal) => Err(refusal),
-            None => {
-                let (length, text) = answer.split_once(' ').expect("a length");
-                assert_eq!(number::<usize>(length), text.len());
-                Ok(text.into())
-            }
-        },
+        answer: text_or_refusal(answer),
     })
 }
 

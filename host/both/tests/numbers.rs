@@ -8,6 +8,7 @@ const SHORT: Refusal = Refusal { number: 8, place: 0 };
 over_both!(
     digits,
     digits_refused,
+    digits_list,
     writing,
     writing_into_nothing,
     longest_text,
@@ -48,6 +49,21 @@ fn digits_refused<T: Calls>() {
     }
 }
 
+fn digits_list<T: Calls>() {
+    let list = list::digits("digits.txt");
+    assert!(list.len() >= 200);
+    for case in list {
+        let call = |b: &mut [u8]| T::write_integer(case.value, case.radix, case.width, b);
+        match &case.answer {
+            Ok(text) => {
+                expect(case.room, Ok(text), call);
+                expect_text(text, 9, SHORT, call);
+            }
+            Err(refusal) => expect(case.room, Err(*refusal), call),
+        }
+    }
+}
+
 fn write<T: Calls>(width: u32, bits: u64, format: &Format, b: &mut [u8]) -> both::Written {
     match width {
         32 => T::write_f32(f32::from_bits(bits as u32), format, b),
@@ -56,9 +72,9 @@ fn write<T: Calls>(width: u32, bits: u64, format: &Format, b: &mut [u8]) -> both
 }
 
 fn writing<T: Calls>() {
-    for file in ["write.txt", "rust.txt", "limit2.txt", "limit_ref.txt"] {
+    for file in ["write.txt", "rust.txt", "limit2.txt", "limit_ref.txt", "widths.txt"] {
         let list = list::writing(file);
-        assert!(list.len() > 500, "{file}");
+        assert!(list.len() >= 500, "{file}");
         for case in list {
             let call = |b: &mut [u8]| write::<T>(case.width, case.bits, &case.format, b);
             match &case.answer {

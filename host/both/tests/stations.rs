@@ -24,9 +24,9 @@ fn formats() -> Vec<Format> {
     let of = |radix, base, exponent_radix, mark| Format::new(radix, base, exponent_radix, mark);
     vec![
         Format { required_exponent_notation: true, ..of(16, 2, 10, b'p') },
-        Format { required_exponent_notation: true, ..of(32, 32, 10, b'p') },
+        Format { required_exponent_notation: true, exponent_width: 3, ..of(32, 32, 10, b'p') },
         Format { no_exponent_notation: true, ..of(2, 2, 10, b'p') },
-        Format { trim_floats: true, ..of(8, 2, 2, b'^') },
+        Format { trim_floats: true, exponent_width: 4, ..of(8, 2, 2, b'^') },
         Format { min_significant_digits: 1200, decimal_point: b',', ..of(4, 4, 32, b'~') },
         Format {
             negative_exponent_break: -2000,
@@ -57,18 +57,18 @@ fn chain<T: Calls>(
     }
 }
 
-/// The lines of a list that have a text and no digit limit.
-fn exact_lines(file: &str) -> Vec<(Writing, Vec<u8>)> {
-    let lines = list::writing(file).into_iter();
+/// The lines of two lists that have a text and no digit limit.
+fn exact_lines(files: [&str; 2]) -> Vec<(Writing, Vec<u8>)> {
+    let lines = files.into_iter().flat_map(list::writing);
     let exact = lines.filter(|line| line.format.max_significant_digits == 0);
     let exact: Vec<_> =
         exact.filter_map(|line| line.answer.clone().ok().map(|text| (line, text))).collect();
-    assert!(exact.len() > 1000);
+    assert!(exact.len() > 1500);
     exact
 }
 
 fn rewritten_in_place<T: Calls>() {
-    for (line, text) in exact_lines("write.txt") {
+    for (line, text) in exact_lines(["write.txt", "widths.txt"]) {
         let short = refused(0, Step::Writing, 8, 0);
         expect_text(&text, 30, short, |b| {
             rewrite::<T>(line.width, &text, &line.format, &line.format, b)
@@ -78,7 +78,7 @@ fn rewritten_in_place<T: Calls>() {
 
 fn chains_come_back<T: Calls>() {
     let formats = formats();
-    for (line, text) in exact_lines("rust.txt") {
+    for (line, text) in exact_lines(["rust.txt", "widths.txt"]) {
         for first in &formats {
             let others = formats.iter().map(Format::record);
             let further: Vec<_> = others.chain([line.format.record()]).collect();
@@ -170,7 +170,8 @@ fn refusals_by_station<T: Calls>() {
 
 /// A record of a format that fits it stands for that format: the chain writes what the writer does.
 fn records_say_the_same<T: Calls>() {
-    for line in list::writing("limit_ref.txt").into_iter().chain(list::writing("write.txt")) {
+    let files = ["limit_ref.txt", "write.txt", "widths.txt"];
+    for line in files.into_iter().flat_map(list::writing) {
         let Ok(text) = &line.answer else { continue };
         let exact = Format { no_exponent_notation: true, ..Format::new(2, 2, 10, b'^') };
         let mut first = [0; LONGEST_TEXT];
@@ -208,7 +209,7 @@ fn records_cut_to_fit<T: Calls>() {
         });
         assert_eq!(T::record(&format), format.record());
     }
-    for line in list::writing("write.txt") {
+    for line in ["write.txt", "widths.txt"].into_iter().flat_map(list::writing) {
         assert_eq!(T::record(&line.format), line.format.record());
     }
 }
