@@ -101,7 +101,7 @@ fn written(a: Answer) -> Written {
     Err(Refusal { number: a.number, place: a.place })
 }
 
-fn rewritten(a: StationAnswer) -> Rewritten {
+pub(crate) fn rewritten(a: StationAnswer) -> Rewritten {
     if a.number == 0 {
         assert_eq!((a.writing, a.station, a.place), (false, 0, 0));
         return Ok(a.value);
@@ -166,11 +166,7 @@ impl Calls for C {
         further: &[Record],
         b: &mut [u8],
     ) -> Rewritten {
-        let f = further.as_flattened();
-        let (tp, fp, bp) = (t.as_ptr(), f.as_ptr(), b.as_mut_ptr());
-        rewritten(unsafe {
-            stored(|a| through_chain_f64(tp, t.len(), from, first, fp, f.len(), bp, b.len(), a))
-        })
+        C::chain_bytes(t, from, first, further.as_flattened(), b)
     }
     fn chain_f32(
         t: &[u8],
@@ -183,6 +179,12 @@ impl Calls for C {
         let (tp, fp, bp) = (t.as_ptr(), f.as_ptr(), b.as_mut_ptr());
         rewritten(unsafe {
             stored(|a| through_chain_f32(tp, t.len(), from, first, fp, f.len(), bp, b.len(), a))
+        })
+    }
+    fn chain_bytes(t: &[u8], from: &Format, first: &Format, f: &[u8], b: &mut [u8]) -> Rewritten {
+        let (tp, fp, bp) = (t.as_ptr(), f.as_ptr(), b.as_mut_ptr());
+        rewritten(unsafe {
+            stored(|a| through_chain_f64(tp, t.len(), from, first, fp, f.len(), bp, b.len(), a))
         })
     }
     fn table_to_sheet(t: &[u8], format: &Format, b: &mut [u8]) -> Written {

@@ -35,6 +35,14 @@ pub trait Calls {
         further: &[Record],
         buffer: &mut [u8],
     ) -> Rewritten;
+    /// A chain at 64 bits with its further stations in bytes, so that a record may be cut off.
+    fn chain_bytes(
+        text: &[u8],
+        from: &Format,
+        first: &Format,
+        further: &[u8],
+        buffer: &mut [u8],
+    ) -> Rewritten;
     fn table_to_sheet(table: &[u8], format: &Format, sheet: &mut [u8]) -> Written;
     fn sheet_to_table(sheet: &[u8], format: &Format, table: &mut [u8]) -> Written;
     fn record(format: &Format) -> Record;
@@ -60,6 +68,12 @@ macro_rules! over_both {
             $(#[test] fn $test() { each(super::$test::<Inside<C>>) })*
         }
     };
+}
+
+/// The table of one window, by the bits of its start and its end.
+pub fn table(start: u64, end: u64) -> Vec<u8> {
+    let counts = [1u32, 24].map(u32::to_le_bytes);
+    [counts.as_flattened(), [start, end].map(u64::to_le_bytes).as_flattened()].concat()
 }
 
 /// What a lent buffer holds before a call: no two neighbours alike, and nothing a text could hold.

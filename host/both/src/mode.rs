@@ -104,6 +104,15 @@ impl<T: Calls> Calls for Inside<T> {
     ) -> Rewritten {
         inside(|| T::chain_f32(text, from, first, further, buffer))
     }
+    fn chain_bytes(
+        text: &[u8],
+        from: &Format,
+        first: &Format,
+        further: &[u8],
+        buffer: &mut [u8],
+    ) -> Rewritten {
+        inside(|| T::chain_bytes(text, from, first, further, buffer))
+    }
     fn table_to_sheet(table: &[u8], format: &Format, sheet: &mut [u8]) -> Written {
         inside(|| T::table_to_sheet(table, format, sheet))
     }

@@ -1,7 +1,8 @@
 //! The calls by the Rust crate.
 
-use hornbillrug::{Format, Record, Refusal};
+use hornbillrug::{raw, Format, Record, Refusal};
 
+use crate::c::rewritten;
 use crate::{Calls, Rewritten, Written};
 
 /// The safe calls of `hornbillrug`.
@@ -46,6 +47,14 @@ impl Calls for Rust {
         buffer: &mut [u8],
     ) -> Rewritten {
         hornbillrug::chain_f32(text, from, first, further, buffer)
+    }
+    /// By the C function that the crate declares, since its safe call takes whole records only.
+    fn chain_bytes(t: &[u8], from: &Format, first: &Format, f: &[u8], b: &mut [u8]) -> Rewritten {
+        let (tp, fp, bp) = (t.as_ptr(), f.as_ptr(), b.as_mut_ptr());
+        // SAFETY: pointers and lengths are those of one slice.
+        rewritten(unsafe {
+            raw::lexical_chain_f64(tp, t.len(), *from, *first, fp, f.len(), bp, b.len())
+        })
     }
     fn table_to_sheet(table: &[u8], format: &Format, sheet: &mut [u8]) -> Written {
         hornbillrug::table_to_sheet(table, format, sheet)

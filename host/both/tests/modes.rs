@@ -1,7 +1,7 @@
 //! Denormals and ties, at which a floating-point mode would show. All tests of a call run in each
 //! mode; these have the answers written out.
 
-use both::{expect, expect_text, mode, over_both, Calls};
+use both::{expect, expect_text, mode, over_both, table, Calls};
 use hornbillrug::{Format, Refusal, StationRefusal, Step};
 
 const SHORT: Refusal = Refusal { number: 8, place: 0 };
@@ -32,12 +32,6 @@ fn hex() -> Format {
 /// 8/2, exponent radix 10, mark "^", exponent required.
 fn octal() -> Format {
     Format { required_exponent_notation: true, ..Format::new(8, 2, 10, b'^') }
-}
-
-/// The table of one window, by the bits of its start and its end.
-fn table(start: u64, end: u64) -> Vec<u8> {
-    let counts = [1u32, 24].map(u32::to_le_bytes);
-    [counts.as_flattened(), [start, end].map(u64::to_le_bytes).as_flattened()].concat()
 }
 
 // Bits and text of floats, each above the one before it: 0, 2^-1074, 2^-1073, the largest denormal,

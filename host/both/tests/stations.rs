@@ -13,6 +13,8 @@ over_both!(
     refusals_by_station,
     records_say_the_same,
     records_cut_to_fit,
+    record_bytes,
+    records_cut_off,
 );
 
 fn refused(station: usize, step: Step, number: u32, place: usize) -> StationRefusal {
@@ -131,7 +133,7 @@ fn damaged_texts<T: Calls>() {
 }
 
 /// A format for each of the writer's refusals of a format.
-fn bad_formats() -> [(u32, Format); 6] {
+fn bad_formats() -> [(u32, Format); 8] {
     let good = Format::new(16, 2, 10, b'p');
     [
         (1, Format { exponent_base: 8, ..good }),
@@ -140,6 +142,8 @@ fn bad_formats() -> [(u32, Format); 6] {
         (4, Format { required_exponent_notation: true, no_exponent_notation: true, ..good }),
         (5, Format { min_significant_digits: 1201, ..good }),
         (6, Format { negative_exponent_break: 1, ..good }),
+        (16, Format { exponent_width: 0, ..good }),
+        (16, Format { exponent_width: 5, ..good }),
     ]
 }
 
@@ -158,6 +162,9 @@ fn refusals_by_station<T: Calls>() {
             1..=3 => assert_eq!(reads, Err(refused(0, Step::Reading, number, 0))),
             _ => assert_eq!(reads, Ok(5)),
         }
+        // 16 stands behind the others
+        let narrow = Format { exponent_width: 0, ..bad };
+        expect(90, Err(at(0)), |b| T::rewrite_f64(b"1.8p0", &good[0], &narrow, b));
     }
     // a digit limit can bring 2^1024 about, which the next station does not read
     let limit = Format { max_significant_digits: 1, ..Format::new(16, 2, 10, b'p') };
@@ -200,6 +207,8 @@ fn records_cut_to_fit<T: Calls>() {
         (6, Format { positive_exponent_break: i32::MIN, ..good }),
         (6, Format { negative_exponent_break: -65536 - 5, ..good }),
         (6, Format { negative_exponent_break: i32::MAX, ..good }),
+        (16, Format { exponent_width: 256 + 1, ..good }),
+        (16, Format { exponent_width: u32::MAX, ..good }),
     ];
     for (number, format) in wide {
         expect(90, Err(Refusal { number, place: 0 }), |b| T::write_f64(1.5, &format, b));
@@ -212,4 +221,42 @@ fn records_cut_to_fit<T: Calls>() {
     for line in ["write.txt", "widths.txt"].into_iter().flat_map(list::writing) {
         assert_eq!(T::record(&line.format), line.format.record());
     }
+}
+
+/// Each field in its place, by docs/FORMAT.md, section 6.3.
+fn record_bytes<T: Calls>() {
+    let format = Format {
+        required_exponent_notation: true,
+        required_exponent_sign: true,
+        trim_floats: true,
+        max_significant_digits: 300,
+        min_significant_digits: 5,
+        positive_exponent_break: 1000,
+        negative_exponent_break: -6,
+        exponent_width: 3,
+        ..Format::new(16, 2, 10, b'p')
+    };
+    let flags = [1, 0, 1, 0, 1, 0];
+    let counts_and_breaks = [44, 1, 5, 0, 232, 3, 250, 255];
+    let bytes = [&[16, 2, 10][..], &flags, &counts_and_breaks, &[3, b'.', b'p']].concat();
+    assert_eq!(T::record(&format)[..], bytes);
+}
+
+/// Missing bytes count as 0: no pair, an unknown radix, or no mark.
+fn records_cut_off<T: Calls>() {
+    let good = Format::new(16, 2, 10, b'p');
+    let record = T::record(&good);
+    for length in 1..record.len() {
+        let number = length.min(3) as u32;
+        expect(90, Err(refused(1, Step::Writing, number, 0)), |b| {
+            T::chain_bytes(b"1.8", &good, &good, &record[..length], b)
+        });
+    }
+    expect(90, Ok(b"1.8"), |b| T::chain_bytes(b"1.8", &good, &good, &record, b));
+    expect(90, Ok(b"1.8"), |b| T::chain_bytes(b"1.8", &good, &good, &[], b));
+    // 19 bytes, as of a station that knows no width: point and mark stand one byte too early
+    let before = [&record[..17], &record[18..]].concat();
+    expect(90, Err(refused(1, Step::Writing, 3, 0)), |b| {
+        T::chain_bytes(b"1.8", &good, &good, &before, b)
+    });
 }
