@@ -15,7 +15,7 @@ pub fn refused(number: u32) -> Answer {
     Answer { number, place: 0, value: 0 }
 }
 
-/// Our format of a case.
+/// Our format of a case. Its exponents have the least width 1, since the Rust knows no other.
 pub fn format_of(case: &Case) -> Format {
     Format {
         required_exponent_notation: case.required_exponent_notation,
@@ -29,6 +29,7 @@ pub fn format_of(case: &Case) -> Format {
         min_significant_digits: case.least,
         positive_exponent_break: case.high,
         negative_exponent_break: case.low,
+        exponent_width: 1,
         ..Format::new(case.radix, case.base, case.exponent_radix, case.mark)
     }
 }
