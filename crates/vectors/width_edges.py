@@ -2,6 +2,10 @@
 """Prints the list `data/width_edges.txt`: every width with every exponent radix where the digits of an exponent change, and what the documents answer, with `layout.py` of the program `examples`, `edges.py` beside it, and no code of this repository:
 
     python3 crates/vectors/width_edges.py | diff - crates/vectors/data/width_edges.txt
+
+With `digits` it prints the like of the digits call:
+
+    python3 crates/vectors/width_edges.py digits | diff - crates/vectors/data/digit_edges.txt
 """
 import os
 import struct
@@ -77,7 +81,7 @@ def digits_line(value, radix, width, room):
     return f"D {value} {radix} {width} {room}\t{answer}"
 
 
-def digits():
+def numbers():
     for radix in EXPONENT_RADICES:
         for value in (0, *(radix**k + d for k in range(1, WIDEST + 1) for d in (-1, 0)), 2**64 - 1):
             for width in range(1, WIDEST + 1):
@@ -90,12 +94,16 @@ def digits():
 
 
 def lines():
-    yield "# width_edges.py made this list: exponents in every width where their digits change, and digits, with answers computed from the documents alone"
+    yield "# width_edges.py made this list: exponents in every width where their digits change, with answers computed from the documents alone"
     yield from exponents()
     yield from refusals()
-    yield from digits()
+
+
+def digit_lines():
+    yield "# width_edges.py made this list: numbers in every width where their digits change, with answers computed from the documents alone"
+    yield from numbers()
 
 
 if __name__ == "__main__":
-    for row in lines():
+    for row in digit_lines() if sys.argv[1:] == ["digits"] else lines():
         print(row)

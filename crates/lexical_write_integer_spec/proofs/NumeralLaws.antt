@@ -16,7 +16,7 @@ use Rattle.lexical_write_integer_spec.proofs.DigitsLaws.{count-pos, cou
 -- ---- how many
 pub length-widened : (w : ℕ) (ds : List ℕ) → length (widened w ds) ≡ max w (length ds)
 unfolding widened
-length-widened w ds = omega (arith, length-append (replicate {A = ℕ} (w - length ds) 0) ds, length-replicate {A = ℕ} (w - length ds) 0)
+length-widened w ds = simp (length-append, length-replicate) (omega arith)
 
 pub length-numeral : (r w x : ℕ) → length (numeral r w x) ≡ max w (length (digits r x))
 unfolding numeral

@@ -50,9 +50,9 @@ fn digits_refused<T: Calls>() {
 }
 
 fn digits_list<T: Calls>() {
-    let list = list::digits("digits.txt");
-    assert!(list.len() >= 200);
-    for case in list {
+    let list = ["digits.txt", "digit_edges.txt"].map(list::digits);
+    assert!(list[0].len() >= 200 && list[1].len() >= 700);
+    for case in list.into_iter().flatten() {
         let call = |b: &mut [u8]| T::write_integer(case.value, case.radix, case.width, b);
         match &case.answer {
             Ok(text) => {
@@ -71,8 +71,11 @@ fn write<T: Calls>(width: u32, bits: u64, format: &Format, b: &mut [u8]) -> both
     }
 }
 
+const WRITTEN: [&str; 6] =
+    ["write.txt", "rust.txt", "limit2.txt", "limit_ref.txt", "widths.txt", "width_edges.txt"];
+
 fn writing<T: Calls>() {
-    for file in ["write.txt", "rust.txt", "limit2.txt", "limit_ref.txt", "widths.txt"] {
+    for file in WRITTEN {
         let list = list::writing(file);
         assert!(list.len() >= 500, "{file}");
         for case in list {
