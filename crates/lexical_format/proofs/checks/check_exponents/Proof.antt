@@ -4,6 +4,7 @@ use mathlib.Core.Bool.{false}
 use mathlib.Core.Logic.{⊎-elim}
 use borrow.Author.Needs.{needs}
 use lib.IntN.{pos, negsuc, negℤ}
+use Rattle.lexical_util.specs.Digit.{isWidth}
 use Rattle.lexical_format.specs.Format.{farthestBreak, orAbsent, lowBreak, highBreak, outside, badBreaks}
 use Rattle.lexical_exponent.proofs.DifferenceLaws.{read-back}
 use Rattle.lexical_format.proofs.checks.check_exponents.Statement.{statement}
@@ -42,14 +43,18 @@ breaks c =
     let l = c .before .before in
     rw (sym (low-out (l .before)) ∙ l .if1 .left, sym (high-out (c .before)) ∙ c .if2 .left)
 
+-- whether the width is one
+width : (c : tie.After-is-width) → isWidth (c .before .before .before .before .before .before .before .before .before .args .options .«exponent_width») ≡ c .is-width .result
+width c = sym (c .is-width .ensures)
+
 returns-2 : tie.Need-returns-2
-returns-2 c = rw (breaks (c .before .before), ← c .before .is-width .ensures, c .if3 .taken)
+returns-2 c = rw (breaks (c .before .before), width (c .before), c .if3 .taken)
 
 returns-3 : tie.Need-returns-3
 returns-3 c =
     let e = c .before .before in
     let a = e .before .before .before in
-    rw (low (a .before .before .before), high (a .before), breaks e, ← c .before .is-width .ensures, c .if3 .left)
+    rw (low (a .before .before .before), high (a .before), breaks e, width (c .before), c .if3 .left)
 
 pub check-exponents-spec : {M : Type 1} → statement M
 check-exponents-spec =
