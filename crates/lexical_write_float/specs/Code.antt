@@ -2,6 +2,7 @@
 use Prim.Native.Nat.{ℕ, _^_, _≤_, _<_}
 use mathlib.Core.Path.{_≡_}
 use mathlib.Core.Bool.{Bool, false, cond}
+use mathlib.Core.Logic.{_⊎_}
 use mathlib.Core.List.{List, [], _∷_, _++_}
 use lib.Dec.{T}
 use lib.IntN.{ℤ}
@@ -83,6 +84,10 @@ pub record Small (count : ℕ) (P : Plan) : Type 0 where
   pub filled-few : P .filled ≤ 2000
   pub gap-few : P .gap ≤ 2000
   pub padding-few : P .padding ≤ 2000
+
+-- a length as it is measured against the room: 0 stands for one that has room
+abbrev pub Measured : ℕ → ℕ → ℕ → Type 0
+Measured room length r = (r ≡ length) ⊎ ((r ≡ 0) × (length ≤ room))
 
 -- a plan of this text, for every D of so many digits
 pub record IsPlan (point count : ℕ) (text : List ℕ → List ℕ) (P : Plan) : Type 0 where

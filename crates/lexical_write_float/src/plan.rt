@@ -3,12 +3,11 @@ ghost use mathlib.Core.Path.{_≡_};
 ghost use mathlib.Core.Bool.{true};
 ghost use mathlib.Core.List.{List, _++_};
 ghost use Prim.Native.Nat.{ℕ, _+_, _≤_, _<_};
-ghost use lib.Dec.{leb};
 ghost use lib.ListN.{length};
 ghost use Rattle.lexical_util.specs.Answer.{done, held};
 ghost use Rattle.lexical_util.specs.Digit.{isRadix, isWidth};
 ghost use Rattle.lexical_buffer.specs.Put.{Puts};
-ghost use Rattle.lexical_write_float.specs.Code.{Counted, digitsOf, Small, fractionText, planText, tailText};
+ghost use Rattle.lexical_write_float.specs.Code.{Counted, digitsOf, Small, Measured, fractionText, planText, tailText};
 use crate::pieces::put_digits;
 use crate::pieces::put_leading;
 use crate::pieces::put_zeros;
@@ -98,8 +97,8 @@ fn planned_length(
     plan_length(count, plan) + tail
 }
 
-// Whether a text has room. Most buffers are longer than any text with so many zeros, since D, the point and the exponent come to at most 85 bytes: for these nothing is measured.
-fn has_room(
+// The length of a text that may have no room, and 0 for one that has: most buffers are longer than any text with so many zeros, since D, the point and the exponent come to at most 85 bytes, and for these nothing is measured.
+fn length_against(
     room: usize,
     count: usize,
     plan: Plan,
@@ -108,14 +107,14 @@ fn has_room(
     plus: bool,
     radix: u32,
     width: u32,
-) -> bool
+) -> usize
     requires { ⌜ (count ≤ 64) × Small count plan × (isRadix radix ≡ true) × (isWidth width ≡ true) × (exponent .1 < 8192) ⌝ }
-    ensures { λ r. ⌜ ((D : List ℕ) (point mark : ℕ) → length D ≡ count → r ≡ leb (length (planText point plan D ++ tailText layout mark (exponent .0) plus radix width (exponent .1))) room) ⌝ }
+    ensures { λ r. ⌜ ((D : List ℕ) (point mark : ℕ) → length D ≡ count → Measured room (length (planText point plan D ++ tailText layout mark (exponent .0) plus radix width (exponent .1))) r) ⌝ }
 {
     if plan.filled + plan.gap + plan.padding + 85 <= room {
-        return true;
+        return 0;
     }
-    planned_length(count, plan, layout, exponent, plus, radix, width) <= room
+    planned_length(count, plan, layout, exponent, plus, radix, width)
 }
 
 // A planned text, and the exponent where the layout has one, written if there is room for it. The answer is its length either way.
@@ -137,8 +136,9 @@ pub(crate) fn write_plan(
     let width = options.exponent_width;
     let count = digits.count;
     let room = buffer.len();
-    if !has_room(room, count, plan, layout, exponent, plus, radix, width) {
-        return planned_length(count, plan, layout, exponent, plus, radix, width);
+    let length = length_against(room, count, plan, layout, exponent, plus, radix, width);
+    if length > room {
+        return length;
     }
     let mark = put_plan(buffer, digits, plan, options.decimal_point);
     write_exponent(

@@ -2,14 +2,13 @@
 use Prim.Native.Nat.{ℕ, _≤_, zero-le}
 use mathlib.Core.Path.{_≡_, sym, _∙_}
 use mathlib.Core.List.{List, _++_}
+use mathlib.Core.Logic.{⊎-elim}
 use native.Mathlib.Nat.{zero-add}
 use native.Mathlib.Omega.{arith}
-use lib.Dec.{leb}
 use lib.ListN.{length, length-append}
-use Rattle.lexical_write_float.specs.Code.{digitsOf, planText, tailText}
+use Rattle.lexical_write_float.specs.Code.{digitsOf, Measured, planText, tailText}
 use Rattle.lexical_buffer.proofs.PutLaws.{puts-more, kept, short-held}
 use borrow.Author.Needs.{needs}
-use borrow.Author.Tests.{not-true, not-false, leb-true, leb-false}
 use Rattle.lexical_write_float.proofs.plan.write_plan.Statement.{statement}
 use Rattle.lexical_write_float.proofs.plan.write_plan.Tie as tie
 
@@ -19,24 +18,23 @@ front c = let a = c .args in planText (a .options .«decimal_point») (a .plan) 
 abbrev tail : tie.Start → List ℕ
 tail c = let a = c .args in tailText (a .layout) (a .options .exponent) (a .exponent .0) (a .format .«required_exponent_sign») (a .format .«exponent_radix») (a .options .«exponent_width») (a .exponent .1)
 
--- whether the text has room
-decided : (c : tie.After-has-room) → (let s = c .before .before in c .has-room .result ≡ leb (length (front s ++ tail s)) (length (s .args .buffer .now)))
-decided c = let s = c .before .before in c .has-room .ensures (digitsOf (s .args .digits)) (s .args .options .«decimal_point») (s .args .options .exponent) (sym (s .pre .0 .count-is))
+-- the length as it was measured
+measured : (c : tie.After-length-against) → (let s = c .before .before in Measured (length (s .args .buffer .now)) (length (front s ++ tail s)) (c .length-against .result))
+measured c = let s = c .before .before in c .length-against .ensures (digitsOf (s .args .digits)) (s .args .options .«decimal_point») (s .args .options .exponent) (sym (s .pre .0 .count-is))
 
 room : (c : tie.Else1) → (let s = c .before .before .before in length (front s ++ tail s) ≤ length (s .args .buffer .now))
-room c = leb-true _ _ (sym (decided (c .before)) ∙ not-false _ (c .if1 .left))
+room c = ⊎-elim (λ e. omega arith) (λ w. w .1) (measured (c .before))
 
-has-room-requires : tie.Need-has-room-requires
-has-room-requires c κs = let s = c .before in (s .pre .0 .few, s .pre .1, s .pre .2, s .pre .3, s .pre .4)
+length-against-requires : tie.Need-length-against-requires
+length-against-requires c κs = let s = c .before in (s .pre .0 .few, s .pre .1, s .pre .2, s .pre .3, s .pre .4)
 
-planned-length-requires : tie.Need-planned-length-requires
-planned-length-requires c κs = let s = c .before .before .before in (s .pre .0 .few, s .pre .1, s .pre .2, s .pre .3, s .pre .4)
-
+-- one above the room is the text's own
 returns : tie.Need-returns
 returns c =
-    let h = c .before .before in
+    let h = c .before in
     let s = h .before .before in
-    (c .planned-length .ensures (digitsOf (s .args .digits)) (s .args .options .«decimal_point») (s .args .options .exponent) (sym (s .pre .0 .count-is)), short-held (front s ++ tail s) (s .args .buffer .now) (leb-false _ _ (sym (decided h) ∙ not-true _ (c .before .if1 .taken))))
+    let own : h .length-against .result ≡ length (front s ++ tail s) = ⊎-elim (λ e. e) (λ w. absurd (omega (arith, w .0))) (measured h) in
+    (own, short-held (front s ++ tail s) (s .args .buffer .now) (omega (arith, own)))
 
 put-plan-requires : tie.Need-put-plan-requires
 put-plan-requires c κs =
@@ -67,8 +65,7 @@ pub write-plan-spec : {M : Type 1} → statement M
 write-plan-spec =
     tie.close
     (tie.spec
-    has-room-requires
-    planned-length-requires
+    length-against-requires
     returns
     put-plan-requires
     write-exponent-requires
