@@ -80,23 +80,6 @@ pub(crate) fn put_plan(buffer: &mut [u8], digits: Digits, plan: Plan, point: u8)
     put_fraction(buffer, fraction, digits, plan, point)
 }
 
-// The length of a planned text and of the exponent, where the layout has one.
-fn planned_length(
-    count: usize,
-    plan: Plan,
-    layout: Layout,
-    exponent: BaseExponent,
-    plus: bool,
-    radix: u32,
-    width: u32,
-) -> usize
-    requires { ⌜ (count ≤ 64) × Small count plan × (isRadix radix ≡ true) × (isWidth width ≡ true) × (exponent .1 < 8192) ⌝ }
-    ensures { λ r. ⌜ ((D : List ℕ) (point mark : ℕ) → length D ≡ count → r ≡ length (planText point plan D ++ tailText layout mark (exponent .0) plus radix width (exponent .1))) ⌝ }
-{
-    let tail = exponent_length(layout, exponent, plus, radix, width);
-    plan_length(count, plan) + tail
-}
-
 // The length of a text that may have no room, and 0 for one that has: most buffers are longer than any text with so many zeros, since D, the point and the exponent come to at most 85 bytes, and for these nothing is measured.
 fn length_against(
     room: usize,
@@ -114,7 +97,8 @@ fn length_against(
     if plan.filled + plan.gap + plan.padding + 85 <= room {
         return 0;
     }
-    planned_length(count, plan, layout, exponent, plus, radix, width)
+    let tail = exponent_length(layout, exponent, plus, radix, width);
+    plan_length(count, plan) + tail
 }
 
 // A planned text, and the exponent where the layout has one, written if there is room for it. The answer is its length either way.

@@ -1,20 +1,19 @@
 -- The laws of a number's digits, over the radix. Assumes nothing.
 use Prim.Native.Nat.{ℕ, zero, suc, _+_, _-_, _*_, _/_, _%_, _^_, _≤_, _<_}
-use mathlib.Core.Path.{_≡_, refl, ap, _∙_}
+use mathlib.Core.Path.{_≡_, refl}
 use mathlib.Core.Bool.{Bool, true, false}
-use mathlib.Core.List.{List, [], _∷_, _++_, map, map-append}
-use native.Mathlib.Nat.{div-lt-self, div-add-mod', mod-lt, zero-mul, zero-add, one-mul, mul-zero, mul-suc, mul-comm, pow-suc, pow-zero, div-lt-iff-lt-mul, le-div-iff-mul-le, pow-le-pow-right, lt-of-lt-of-le, le-trans, le-antisymm, div-mul-le-self, lt-div-mul-add, mod-eq-of-lt}
+use mathlib.Core.List.{List, [], _∷_, _++_}
+use native.Mathlib.Nat.{div-lt-self, div-add-mod', mod-lt, zero-mul, zero-add, one-mul, mul-zero, mul-suc, mul-comm, pow-suc, pow-zero, div-lt-iff-lt-mul, le-div-iff-mul-le, pow-le-pow-right, lt-of-lt-of-le, le-trans, le-antisymm, div-mul-le-self, lt-div-mul-add}
 use native.Mathlib.Omega.{arith}
 use borrow.Author.Tests.{lt-ltb, le-ltb, ltb-true, ltb-false, leb-true, leb-false}
 use lib.Dec.{ltb, leb}
-use lib.ListN.{length, getD, length-append, length-map, List·getD-append}
+use lib.ListN.{length, getD, length-append, List·getD-append}
 use lib.Pow.{pow-add, pow-mono}
-use lib.Seq.{getD-at}
 use lib.Ieee.{size}
 use lib.Ieee.Digits.{size-lt, size-reaches}
-use Rattle.lexical_util.specs.Digit.{digitByte, AreDigits, readOn, digitsValue}
+use Rattle.lexical_util.specs.Digit.{AreDigits, readOn, digitsValue}
 use Rattle.lexical_exponent.proofs.PowerLaws.{size-pos}
-use Rattle.lexical_write_integer_spec.specs.Digits.{digitsUpTo, digits, numeral}
+use Rattle.lexical_write_integer_spec.specs.Digits.{digitsUpTo, digits}
 
 -- ---- the two cases, and induction by them
 same : (r : ℕ) → 1 < r → (f g x : ℕ) → x ≤ f → x ≤ g → digitsUpTo r f x ≡ digitsUpTo r g x

@@ -1,5 +1,5 @@
 // A field's number.
-ghost use Prim.Native.Nat.{_≤_, _<_, _^_};
+ghost use Prim.Native.Nat.{_≤_, _<_};
 use crate::fields;
 
 pub(crate) enum Number {
