@@ -12,7 +12,7 @@ use Rattle.lexical_format.specs.declared.options.RoundMode.the-variants.{Trunca
 use Rattle.lexical_read_float_spec.specs.Examples.{format, options}
 use Rattle.lexical_rewrite_spec.specs.declared.text_format.TextFormat.{TextFormat}
 use Rattle.lexical_rewrite_spec.specs.Chain.{Chained, arrived, readingRefusedAt, writingRefusedAt, Outcome, chainOf}
-use Rattle.lexical_rewrite_spec.specs.Record.{recordSize, formatsOf, recordOf}
+use Rattle.lexical_rewrite_spec.specs.Record.{recordSize, formatOfRecord, formatsOf, recordOf}
 
 -- exponent radix 10, point ".", all else default
 abbrev inPair : ℕ → ℕ → ℕ → TextFormat
@@ -33,9 +33,13 @@ sameChained (writingRefusedAt i n p) (writingRefusedAt j m q) = eqb i j && (eqb 
 abbrev sameOutcome : Outcome → Chained → List ℕ → Bool
 sameOutcome o answer held = sameChained (o .answer) answer && sameBytes (o .bytes) held
 
--- the record of 2/2, mark "e": radix, base, exponent radix; six flags; four numbers of two bytes; width, point, mark
+-- a record: radix, base, exponent radix; six flags; four numbers of two bytes; width, point, mark
+abbrev recordIn : ℕ → ℕ → ℕ → ℕ → List ℕ
+recordIn radix base width mark = radix ∷ base ∷ 10 ∷ (replicate {A = ℕ} 14 0 ++ width ∷ 46 ∷ mark ∷ [])
+
+-- that of 2/2, mark "e"
 abbrev record2 : List ℕ
-record2 = 2 ∷ 2 ∷ 10 ∷ (replicate {A = ℕ} 14 0 ++ 1 ∷ 46 ∷ 101 ∷ [])
+record2 = recordIn 2 2 1 101
 
 -- so many bytes of 7, which no text has
 abbrev lent : ℕ → List ℕ
@@ -44,6 +48,10 @@ lent n = replicate {A = ℕ} n 7
 -- from 16/2, mark "p", to 32/32, mark "^", and to the stations of the records, with so many bytes lent
 abbrev sent : String → Format → String → List ℕ → ℕ → Chained → List ℕ → Example
 sent name f t records n answer held = record { name = name; holds = sameOutcome (chainOf f (inPair 16 2 112) (bytes t) (inPair 32 32 94) (formatsOf records) (lent n)) answer held }
+
+-- 1,024 under 16/2, mark "p" and a width that no writer has, to 32/32 in width 4, mark "^", and to the stations of the records
+abbrev sentWide : String → List ℕ → Chained → List ℕ → Example
+sentWide name records answer held = record { name = name; holds = sameOutcome (chainOf binary64 (formatOfRecord (recordIn 16 2 0 112)) (bytes "4.0p8") (formatOfRecord (recordIn 32 32 4 94)) (formatsOf records) (lent 9)) answer held }
 
 unfoldable pub chains : List Example
 chains =
@@ -58,6 +66,10 @@ chains =
     ∷ sent "the largest float and a digit more" binary64 "F.FFFFFFFFFFFF8Fp1020" [] 18 (arrived 16) (bytes "F.VVVVVVVVVU^204" ++ lent 2)
     ∷ sent "the same in 32 bits" binary32 "F.FFFFF7p124" record2 30 (arrived 29) (bytes "1.11111111111111111111111e127" ++ lent 1)
     ∷ sent "half a step above the largest float" binary64 "F.FFFFFFFFFFFFCp1020" [] 18 (readingRefusedAt 0 11 0) (lent 18)
+    ∷ sentWide "width 4" [] (arrived 8) (bytes "1.0^0002" ++ lent 1)
+    ∷ sentWide "widths 4 and 1" record2 (arrived 6) (bytes "1.0e10" ++ lent 3)
+    ∷ sentWide "widths 4, 1 and 3" (record2 ++ recordIn 32 32 3 94) (arrived 7) (bytes "1.0^002" ++ lent 2)
+    ∷ sentWide "widths 4, 1 and 0" (record2 ++ recordIn 32 32 0 94) (writingRefusedAt 2 16 0) (lent 9)
     ∷ []
 
 -- ---- records
