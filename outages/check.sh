@@ -57,6 +57,12 @@ printf '1\n1.0p0 F.FFFFFFFFFFFFCp1020\n' > "$work/input"
 says 'an end at the edge' 'refused 11 at 8' "$bin/read_sheet" 16/2/10
 says 'an end at the edge, rewritten' 'refused 11 at 8' "$bin/rewrite_sheet" 16/2/10 32/32/10
 
+# ---- exponents of any width are read, and written in width 1; a count line of two digits for one window is none
+printf '1\n1.0p000 1.8p-0000\n' > "$work/input"
+[ "$("$bin/rewrite_sheet" 16/2/10 16/2/10 < "$work/input" | sed 1d)" = '1.0p0 1.8p0' ] || fail 'wide exponents'
+printf '01\n1.0p000 1.8p000\n' > "$work/input"
+says 'a wide count line' 'refused 15 at 0' "$bin/read_sheet" 16/2/10
+
 # ---- inputs that are too long, and arguments that are no format
 head -c 3277605 /dev/zero | tr '\0' 1 > "$work/input"
 says 'a sheet longer than any' 'refused 15 at 3277604' "$bin/read_sheet" 16/2/10
