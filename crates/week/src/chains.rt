@@ -1,5 +1,5 @@
 // A chain of 100,001 stations, one whose stations have exponents of three widths, and chains that are refused, each with the station, and with what the lent bytes hold then.
-ghost use Prim.Native.Nat.{_<_};
+ghost use Prim.Native.Nat.{_≤_, _<_};
 use crate::floats;
 use crate::formats;
 use crate::formats::TWO_RECORDS;
@@ -85,56 +85,53 @@ fn refused(name: &[u8], text: &[u8], first: TextFormat, further: &[u8], out: &mu
     print::text(b"\n");
 }
 
-// With the text 1.8p0, or a text that is refused; with all records or the first bytes of them; and at the end with a buffer that is too short.
+// A text that is refused.
+fn refused_texts(first: TextFormat, records: &[u8], out: &mut [u8]) {
+    refused(b"no text", b"", first, records, out);
+    refused(b"a wrong byte", b"1.8q0", first, records, out);
+    refused(b"an exponent of 32,768", b"1p+32768", first, records, out);
+    refused(b"too large", b"1p1024", first, records, out);
+}
+
+// The text 1.8p0 and a first station whose format is refused.
+fn refused_formats(first: TextFormat, records: &[u8], out: &mut [u8]) {
+    let limited = formats::limited(1201);
+    refused(b"1,201 digits", b"1.8p0", limited, records, out);
+    let narrow = formats::widened(first, 0);
+    refused(b"width 0", b"1.8p0", narrow, records, out);
+}
+
+// The text 1.8p0 and the first bytes of the records.
+fn refused_records(name: &[u8], first: TextFormat, count: usize, out: &mut [u8])
+    requires { ⌜ count ≤ 40 ⌝ }
+{
+    let records = formats::RECORDS;
+    refused(name, b"1.8p0", first, &records[0..count], out);
+}
+
 pub(crate) fn run() {
     long();
     widths();
-    let records = formats::RECORDS;
     let first = formats::wednesday();
     let mut out = floats::room();
-    refused(b"no text", b"", first, &records, &mut out);
-    refused(b"a wrong byte", b"1.8q0", first, &records, &mut out);
-    refused(
-        b"an exponent of 32,768",
-        b"1p+32768",
-        first,
-        &records,
-        &mut out,
-    );
-    refused(b"too large", b"1p1024", first, &records, &mut out);
-    refused(
-        b"1,201 digits",
-        b"1.8p0",
-        formats::limited(1201),
-        &records,
-        &mut out,
-    );
-    refused(
-        b"width 0",
-        b"1.8p0",
-        formats::widened(first, 0),
-        &records,
-        &mut out,
-    );
-    refused(
+    refused_texts(first, &formats::RECORDS, &mut out);
+    refused_formats(first, &formats::RECORDS, &mut out);
+    refused_records(
         b"a record cut off behind its base",
-        b"1.8p0",
         first,
-        &records[0..RECORD_SIZE + 2],
+        RECORD_SIZE + 2,
         &mut out,
     );
-    refused(
+    refused_records(
         b"a record cut off before its mark",
-        b"1.8p0",
         first,
-        &records[0..RECORD_SIZE - 1],
+        RECORD_SIZE - 1,
         &mut out,
     );
-    refused(
+    refused_records(
         b"a buffer a byte too short",
-        b"1.8p0",
         first,
-        &records[0..RECORD_SIZE],
+        RECORD_SIZE,
         &mut out[0..2],
     );
 }
