@@ -87,11 +87,13 @@ badBreaks o = outside (negℤ (pos farthestBreak)) (negsuc 0) (lowBreak o) || ou
 abbrev pub readingChecks : NumberFormat → Options → List Check
 readingChecks F o = (2, not (isRadix (F .«exponent_radix»))) ∷ (3, badBytes F o) ∷ []
 
--- and for the writer: 4 exponent both required and forbidden; 5 counts, as they are judged; 6 breaks; 16 width not 1 to 4
+-- and for the writer: 6 breaks; 16 width not 1 to 4
+abbrev pub exponentChecks : Options → List Check
+exponentChecks o = (6, badBreaks o) ∷ (16, not (isWidth (o .«exponent_width»))) ∷ []
+
+-- and before these 4 exponent both required and forbidden; 5 counts, as they are judged
 abbrev pub writingChecks : Bool → NumberFormat → Options → List Check
-writingChecks badCount F o =
-    (4, F .«required_exponent_notation» && F .«no_exponent_notation») ∷ (5, badCount)
-    ∷ (6, badBreaks o) ∷ (16, not (isWidth (o .«exponent_width»))) ∷ []
+writingChecks badCount F o = (4, F .«required_exponent_notation» && F .«no_exponent_notation») ∷ (5, badCount) ∷ exponentChecks o
 
 -- 1 pair unknown, then the others
 abbrev pub checkedPair : List Check → Option Pair → Answer Pair

@@ -1,8 +1,8 @@
 // The checks of a format, for which the Rust has assertions: document 01, refusals 1 to 6 in their order, and document 02, 16. The reader stops after 3.
 ghost use mathlib.Core.Path.{_≡_};
 ghost use Rattle.lexical_util.specs.Answer.{done, checked};
-ghost use Rattle.lexical_format.specs.Format.{badByte, badCounts, orAbsent, outside, readingFormat, checkedFormat, settled, writingChecks, ofReadingCheck, ofWritingCheck};
-ghost use Rattle.lexical_format.specs.Code.{badBytesOf, exponentChecks, readingOf};
+ghost use Rattle.lexical_format.specs.Format.{badByte, badCounts, orAbsent, outside, readingFormat, checkedFormat, settled, exponentChecks, writingChecks, ofReadingCheck, ofWritingCheck};
+ghost use Rattle.lexical_format.specs.Code.{badBytesOf, readingOf};
 use crate::format::FoundPair;
 use crate::format::NumberFormat;
 use crate::format::Pair;

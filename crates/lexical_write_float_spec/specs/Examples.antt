@@ -136,7 +136,7 @@ further =
     ∷ is "limit, 16/16/16: 2.5, one digit, Truncate" (plain 16 16 16) (options 0 1 Truncate false) (double 5 2) "2.0"
     ∷ []
 
--- document 02, 2.2: an exponent's least width, which no exponent of more digits has, and no digits but an exponent's; 16 after 6 and before 7
+-- document 02, 2.2: an exponent's least width. It changes no exponent of as many digits, and no digits but an exponent's; 16 after 6 and before 7
 unfoldable pub widths : List Example
 widths =
     is "16/2/10: 1,024, width 2" (plain 16 2 10) (wide 2) (double 1024 1) "4.0^08"
