@@ -39,8 +39,7 @@ fn finite_line(negative: bool, value: Magnitude) {
 fn print_parts(parts: Parts) {
     match parts {
         Parts::Special => print::text(b"special\n"),
-        Parts::Plain(value) => finite_line(false, value),
-        Parts::Negative(value) => finite_line(true, value),
+        Parts::Finite(negative, value) => finite_line(negative, value),
     }
 }
 

@@ -1,24 +1,25 @@
 -- Masks, shifts and signed sums on a bit pattern, as the code has them, are the fields of it. One proof for both widths. Assumes nothing.
 use Prim.Native.Nat.{ℕ, suc, _+_, _-_, _*_, _/_, _%_, _^_, _≤_, _<_}
-use mathlib.Core.Path.{_≡_, sym, ap, _∙_}
-use mathlib.Core.Bool.{Bool, false}
+use mathlib.Core.Path.{_≡_, sym, ap, ap₂, _∙_}
+use mathlib.Core.Bool.{false, not}
 use native.Mathlib.Nat.{mod-lt, mul-pos, zero-lt-suc}
 use native.Mathlib.Omega.{arith}
-use borrow.Author.Tests.{le-leb, lt-leb, eq-eqb, ne-eqb}
+use borrow.Author.Tests.{leb-false, eq-eqb, ne-eqb}
 use lib.Dec.{leb}
 use lib.Bits.{bitAnd, and-mask}
 use lib.IntN.{pos, _-ℤ_}
 use lib.Pow.{pow-pos}
 use lib.Ieee.{Format, binary32, binary64, prec, emax, low, hid, ones, top, minus, ofBits}
+use lib.Ieee.Scale.{finite}
 use mir.Syntax.{w32}
 use mir.Val.{SFits, toZ, ofZ}
 use Rattle.lexical_float.specs.declared.encoding.Encoding.{Encoding}
 use Rattle.lexical_exponent.specs.declared.exponent.Magnitude.{Magnitude}
-use Rattle.lexical_float.specs.declared.num.Parts.the-variants.{Plain, Negative, Special}
+use Rattle.lexical_float.specs.declared.num.Parts.the-variants.{Finite}
 use Rattle.lexical_float.specs.Encoding.{encodingOf, bitsOf}
 use Rattle.lexical_float.specs.Parts.{magnitudeOf, partsOf}
 use Rattle.lexical_exponent.proofs.DifferenceLaws.{difference-fits, difference-is}
-use Rattle.lexical_float.proofs.PartsLaws.{signed, finite-below, magnitude-bits, parts-bits, special-bits, sign-and-rest}
+use Rattle.lexical_float.proofs.PartsLaws.{finite-below, magnitude-bits, parts-bits, special-test, sign-and-rest}
 
 -- what is known of the two widths' numbers
 pub record Small (f : Format) : Type 0 where
@@ -76,7 +77,7 @@ module _ (f : Format) (E : Encoding) (is : E ≡ encodingOf f) (bits : ℕ) (h :
       let e = difference-is w32 (bits / hid f) (suc (low f)) (omega (arith, small f .exponents, finite-below f bits h .1)) (omega (arith, small f .least)) in
       rw masked (rw (is, e) (sym (magnitude-bits f false bits h ∙ rw (ne-eqb (bits / hid f) 0 q))))
 
--- ---- and the code's tests tell the three cases apart
+-- ---- and the code's tests tell the cases apart, and the sign
 sign-masked : (f : Format) (bits : ℕ) → bitAnd bits (top f - 1) ≡ bits % top f
 sign-masked binary32 bits = and-mask bits 31
 sign-masked binary64 bits = and-mask bits 63
@@ -102,20 +103,14 @@ module _ (f : Format) (E : Encoding) (is : E ≡ encodingOf f) where
     split : bits < 2 * top f → bits ≡ bitsOf f (leb (top f) bits) below-sign
     split few = sign-and-rest f bits few ∙ ap (bitsOf f (leb (top f) bits)) (sym rest)
 
-    pub finite-rest : below-sign < E .«exponent_mask» → below-sign < ones f * hid f
-    finite-rest h = rw infinity at h
+    pub finite-rest : not (finite (ofBits f bits)) ≡ false → below-sign < ones f * hid f
+    finite-rest h = rw rest (leb-false (ones f * hid f) (bits % top f) (special-test f bits ∙ h))
 
-    finite-is : bits < 2 * top f → below-sign < E .«exponent_mask» → (v : Magnitude) → v ≡ magnitudeOf f (ofBits f below-sign) → partsOf f (ofBits f bits) ≡ signed (leb (top f) bits) v
+    pub finite-is : bits < 2 * top f → not (finite (ofBits f bits)) ≡ false → (v : Magnitude) → v ≡ magnitudeOf f (ofBits f below-sign) → Finite (leb (E .«sign_mask») bits) v ≡ partsOf f (ofBits f bits)
     finite-is few h v e =
-        ap (λ (x : ℕ). partsOf f (ofBits f x)) (split few) ∙ parts-bits f (leb (top f) bits) below-sign (finite-rest h) ∙ ap (signed (leb (top f) bits)) (sym e)
+        ap₂ Finite (ap (λ (x : ℕ). leb x bits) sign) e
+        ∙ sym (ap (λ (x : ℕ). partsOf f (ofBits f x)) (split few) ∙ parts-bits f (leb (top f) bits) below-sign (finite-rest h))
 
-    pub plain-is : bits < E .«sign_mask» → bits < 2 * top f → below-sign < E .«exponent_mask» → (v : Magnitude) → v ≡ magnitudeOf f (ofBits f below-sign) → Plain v ≡ partsOf f (ofBits f bits)
-    plain-is l few h v e = sym (finite-is few h v e ∙ ap (λ (s : Bool). signed s v) (lt-leb (top f) bits (rw sign at l)))
-
-    pub negative-is : E .«sign_mask» ≤ bits → bits < 2 * top f → below-sign < E .«exponent_mask» → (v : Magnitude) → v ≡ magnitudeOf f (ofBits f below-sign) → Negative v ≡ partsOf f (ofBits f bits)
-    negative-is l few h v e = sym (finite-is few h v e ∙ ap (λ (s : Bool). signed s v) (le-leb (top f) bits (rw sign at l)))
-
-    pub special-is : bits < 2 * top f → E .«exponent_mask» ≤ below-sign → Special ≡ partsOf f (ofBits f bits)
-    special-is few h =
-        let below-top : below-sign < top f = rw rest (mod-lt bits (rw sign at sign-some)) in
-        sym (ap (λ (x : ℕ). partsOf f (ofBits f x)) (split few) ∙ special-bits f (leb (top f) bits) below-sign (rw infinity at h) below-top)
+    -- the test
+    pub special-is : leb (E .«exponent_mask») below-sign ≡ not (finite (ofBits f bits))
+    special-is = ap₂ leb infinity rest ∙ special-test f bits

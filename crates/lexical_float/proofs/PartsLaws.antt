@@ -2,7 +2,7 @@
 use Prim.Native.Nat.{ℕ, zero, suc, _+_, _-_, _*_, _/_, _%_, _^_, _≤_, _<_}
 use mathlib.Core.Path.{_≡_, refl, sym, ap, _∙_, subst}
 use mathlib.Core.Bool.{Bool, true, false, not, cond}
-use native.Mathlib.Nat.{suc-mul, mul-comm, add-mod-left, mod-eq-of-lt, div-eq-of-lt-le, mul-add-div, mul-add-mod-self-left, div-lt-iff-lt-mul}
+use native.Mathlib.Nat.{suc-mul, mul-comm, mul-pos, add-mod-left, mod-lt, mod-eq-of-lt, mod-mod-of-dvd, dvd-mul-right, zero-lt-suc, div-eq-of-lt-le, mul-add-div, mul-add-mod-self-left, div-lt-iff-lt-mul}
 use native.Mathlib.Numerals.{add-one}
 use native.Mathlib.Omega.{arith}
 use borrow.Author.Tests.{le-leb, lt-leb, eq-eqb, ne-eqb, le-ltb}
@@ -10,20 +10,20 @@ use lib.Dec.{T, leb, eqb}
 use lib.IntN.{ℤ, pos, negsuc}
 use lib.Pow.{pow-pos}
 use lib.Ieee.{Float, nan, inf, fin, Format, prec, low, hid, ones, top, up, down, minus, odd, ofFields, ofBits, toBits, fits, isNan, ne, nanBits}
-use lib.Ieee.Bits.{cond-no, ofBits-toBits, toBits-ofBits, toBits-lt, nanBits-above}
+use lib.Ieee.Bits.{is-true, cond-no, ofBits-toBits, toBits-ofBits, toBits-lt, nanBits-above}
 use lib.Ieee.Compare.{differs-from-itself, nan-differs}
 use lib.Ieee.Digits.{minus-val}
 use lib.Ieee.Exact.{HasValue, odd-sign}
 use lib.Ieee.Scale.{finite}
 use Rattle.lexical_exponent.specs.declared.exponent.Magnitude.{Magnitude}
 use Rattle.lexical_float.specs.declared.num.Parts.{Parts}
-use Rattle.lexical_float.specs.declared.num.Parts.the-variants.{Plain, Negative, Special}
+use Rattle.lexical_float.specs.declared.num.Parts.the-variants.{Finite, Special}
 use Rattle.lexical_float.specs.Fields.{mantissa, exponent}
 use Rattle.lexical_float.specs.Encoding.{bitsOf}
 use Rattle.lexical_float.specs.Parts.{magnitudeOf, partsOf, IsValue}
 use Rattle.lexical_float.specs.Claims.{PartsAreTheValue}
 use Rattle.lexical_exponent.proofs.DifferenceLaws.{by-larger, minus-ge, minus-lt}
-use Rattle.lexical_float.proofs.FloatLaws.{same-fraction}
+use Rattle.lexical_float.proofs.FloatLaws.{same-fraction, own-fraction}
 
 -- ---- a bit pattern: the sign, and the bits n below it
 pub record Below (f : Format) (s : Bool) (n : ℕ) : Type 0 where
@@ -113,21 +113,16 @@ magnitude-bits f s n h =
     let w = below f s n (finite-below f n h .0) in
     rw (toBits-ofBits f (bitsOf f s n) (w .few) (value-no-nan (ofBits f (bitsOf f s n)) s _ _ (bits-value f s n h)), w .stored, w .biased)
 
-abbrev pub signed : Bool → Magnitude → Parts
-signed true v = Negative v
-signed false v = Plain v
-
-value-parts : (f : Format) (x : Float) (s : Bool) (a c : ℕ) → HasValue x s a c → partsOf f x ≡ signed s (magnitudeOf f x)
+value-parts : (f : Format) (x : Float) (s : Bool) (a c : ℕ) → HasValue x s a c → partsOf f x ≡ Finite s (magnitudeOf f x)
 unfolding partsOf
 value-parts f nan s a c h = absurd h
 value-parts f (inf t) s a c h = absurd h
-value-parts f (fin true m e) s a c h = rw (← h .0)
-value-parts f (fin false m e) s a c h = rw (← h .0)
+value-parts f (fin t m e) s a c h = ap (λ (z : Bool). Finite z (magnitudeOf f (fin t m e))) (h .0)
 
-pub parts-bits : (f : Format) (s : Bool) (n : ℕ) → n < ones f * hid f → partsOf f (ofBits f (bitsOf f s n)) ≡ signed s (magnitudeOf f (ofBits f n))
+pub parts-bits : (f : Format) (s : Bool) (n : ℕ) → n < ones f * hid f → partsOf f (ofBits f (bitsOf f s n)) ≡ Finite s (magnitudeOf f (ofBits f n))
 parts-bits f s n h =
     value-parts f (ofBits f (bitsOf f s n)) s _ _ (bits-value f s n h)
-    ∙ ap (signed s) (magnitude-bits f s n h ∙ sym (magnitude-bits f false n h))
+    ∙ ap (Finite s) (magnitude-bits f s n h ∙ sym (magnitude-bits f false n h))
 
 -- ---- from the infinity's bits on there is no value
 fields-special : (f : Format) (s : Bool) (x t : ℕ) → x ≡ ones f → partsOf f (ofFields f s x t) ≡ Special
@@ -139,7 +134,7 @@ fields-special f s (suc x) t e = rw (eq-eqb (suc x) (ones f) e) (go (eqb t 0))
     go true = refl
     go false = refl
 
-pub special-bits : (f : Format) (s : Bool) (n : ℕ) → ones f * hid f ≤ n → n < top f → partsOf f (ofBits f (bitsOf f s n)) ≡ Special
+special-bits : (f : Format) (s : Bool) (n : ℕ) → ones f * hid f ≤ n → n < top f → partsOf f (ofBits f (bitsOf f s n)) ≡ Special
 unfolding ofBits
 special-bits f s n l h =
     let w = below f s n h in
@@ -147,23 +142,24 @@ special-bits f s n l h =
     rw (w .sign, w .rest, w .stored) (fields-special f s (n / hid f) (n % hid f) field)
 
 -- ---- the parts of a float are its value
-signed-value : (x : Float) (s : Bool) (v : Magnitude) → HasValue x s (v .mantissa * up (v .exponent .0)) (down (v .exponent .0)) → IsValue x (signed s v)
-signed-value x true v h = h
-signed-value x false v h = h
+pub special-parts : (f : Format) (x : Float) → not (finite x) ≡ true → Special ≡ partsOf f x
+unfolding partsOf
+special-parts f nan e = refl
+special-parts f (inf s) e = refl
+special-parts f (fin s m d) e = absurd (let z : _≡_ {A = ℕ} 0 1 = cc in omega arith)
 
-pub special-value : (f : Format) (x : Float) → partsOf f x ≡ Special → T (not (finite x))
+special-value : (f : Format) (x : Float) → partsOf f x ≡ Special → T (not (finite x))
 unfolding partsOf
 special-value f nan e = tt
 special-value f (inf s) e = tt
-special-value f (fin true m d) e = absurd (let z : _≡_ {A = ℕ} 0 1 = cc in omega arith)
-special-value f (fin false m d) e = absurd (let z : _≡_ {A = ℕ} 0 1 = cc in omega arith)
+special-value f (fin s m d) e = absurd (let z : _≡_ {A = ℕ} 0 1 = cc in omega arith)
 
 parts-value-bits : (f : Format) (s : Bool) (n : ℕ) → n < top f → IsValue (ofBits f (bitsOf f s n)) (partsOf f (ofBits f (bitsOf f s n)))
 parts-value-bits f s n h =
     let x = ofBits f (bitsOf f s n) in
     by-larger n (ones f * hid f) (IsValue x (partsOf f x))
     (λ l. let e = special-bits f s n l h in rw e (special-value f x e))
-    (λ l. rw (parts-bits f s n l, magnitude-bits f false n l) (signed-value x s (record { mantissa = mantissaBits f n; exponent = record { 0 = exponentBits f n } }) (bits-value f s n l)))
+    (λ l. subst (IsValue x) (sym (parts-bits f s n l ∙ ap (Finite s) (magnitude-bits f false n l))) (bits-value f s n l))
 
 -- a pattern of the width is a sign and the bits below it
 pub split-bits : (f : Format) (b : ℕ) → b < 2 * top f → (P : ℕ → Type 0) → ((s : Bool) (n : ℕ) → n < top f → P (bitsOf f s n)) → P b
@@ -194,6 +190,23 @@ pub float-parts : (f : Format) (x : Float) (r : Parts) → T (fits f x) → r �
 float-parts f x r h e =
     let p : r ≡ partsOf f x = e ∙ ap (partsOf f) (ofBits-toBits f x h) in
     (p, rw p (parts-value f x h))
+
+-- ---- a float is not finite exactly where its bits below the sign reach the infinity's
+by-sign : (f : Format) (b : ℕ) → ofBits f b ≡ ofBits f (bitsOf f (leb (top f) b) (b % top f))
+unfolding ofBits
+by-sign f b =
+    let w = below f (leb (top f) b) (b % top f) (mod-lt b (mul-pos (pow-pos (prec f - 1)) (zero-lt-suc (ones f)))) in
+    rw (w .sign, w .rest, w .stored, mod-mod-of-dvd (hid f) b (dvd-mul-right (hid f) (suc (ones f))))
+
+pub special-test : (f : Format) (b : ℕ) → leb (ones f * hid f) (b % top f) ≡ not (finite (ofBits f b))
+special-test f b =
+    let s = leb (top f) b in
+    let n = b % top f in
+    let x = ofBits f (bitsOf f s n) in
+    by-larger n (ones f * hid f) (leb (ones f * hid f) n ≡ not (finite x))
+    (λ l. le-leb (ones f * hid f) n l ∙ sym (is-true (not (finite x)) (special-value f x (special-bits f s n l (mod-lt b (mul-pos (pow-pos (prec f - 1)) (zero-lt-suc (ones f))))))))
+    (λ l. lt-leb (ones f * hid f) n l ∙ sym (ap not (is-true (finite x) (own-fraction x s _ _ (bits-value f s n l) .is-finite))))
+    ∙ ap (λ (y : Float). not (finite y)) (sym (by-sign f b))
 
 -- bits that a test against the infinity's leaves are no NaN's
 pub tested-bits : (f : Format) (b : ℕ) → b % top f ≤ ones f * hid f → T (not (nanBits f b))

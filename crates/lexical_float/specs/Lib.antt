@@ -1,4 +1,5 @@
 pub mod Fields
+pub mod Sign
 pub mod Parts
 pub mod Encoding
 pub mod Claims

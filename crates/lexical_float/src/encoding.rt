@@ -1,7 +1,9 @@
 // Derived from the constants, `mantissa` and `exponent` of lexical-util/src/num.rs, changed: one body on u64, with the width beside it instead of a trait.
 ghost use mathlib.Core.Path.{_≡_};
+ghost use mathlib.Core.Bool.{not};
 ghost use Prim.Native.Nat.{_*_, _<_};
 ghost use lib.Ieee.{hid, ones, top, ofBits};
+ghost use lib.Ieee.Scale.{finite};
 ghost use Rattle.lexical_float.specs.Encoding.{ofWidth, encodingOf};
 ghost use Rattle.lexical_float.specs.Parts.{magnitudeOf, partsOf};
 use crate::num::Parts;
@@ -68,20 +70,26 @@ fn magnitude_of_bits(bits: u64, width: Width) -> Magnitude
     }
 }
 
+// Whether bits are an infinity's or a NaN's: below the sign, they lie from the infinity's on. Bits above the width's own have no say.
+pub fn is_special(bits: u64, width: Width) -> bool
+    ensures { λ r. ⌜ r ≡ not (finite (ofBits (ofWidth width) bits)) ⌝ }
+{
+    let encoding = encoding_of(width);
+    let below = bits & (encoding.sign_mask - 1);
+    below >= encoding.exponent_mask
+}
+
 // The parts of any bit pattern of the width.
 pub(crate) fn parts_of_bits(bits: u64, width: Width) -> Parts
     requires { ⌜ bits < 2 * top (ofWidth width) ⌝ }
     ensures { λ r. ⌜ r ≡ partsOf (ofWidth width) (ofBits (ofWidth width) bits) ⌝ }
 {
-    let encoding = encoding_of(width);
-    let sign = encoding.sign_mask;
-    let below = bits & (sign - 1);
-    if below >= encoding.exponent_mask {
+    if is_special(bits, width) {
         return Parts::Special;
     }
-    let value = magnitude_of_bits(below, width);
-    if bits < sign {
-        return Parts::Plain(value);
-    }
-    Parts::Negative(value)
+    let encoding = encoding_of(width);
+    let sign = encoding.sign_mask;
+    let value = magnitude_of_bits(bits & (sign - 1), width);
+    let negative = bits >= sign;
+    Parts::Finite(negative, value)
 }

@@ -8,10 +8,8 @@ use lexical_exponent::Magnitude;
 
 // What a float is: its sign apart from its magnitude, or neither.
 pub enum Parts {
-    // Finite, and the sign bit clear.
-    Plain(Magnitude),
-    // Finite, and the sign bit set: -0 too.
-    Negative(Magnitude),
+    // Finite: whether the sign bit is set, as -0 has it too, and the magnitude.
+    Finite(bool, Magnitude),
     // An infinity or a NaN.
     Special,
 }

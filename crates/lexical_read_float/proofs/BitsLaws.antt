@@ -44,11 +44,11 @@ module _ (f : Format) (row : Pair) (power : ℕ) (t : List ℕ) (s : Shape) (n :
       ap (refused 10) (ap (λ (x : Number). x .exponent .place) is) ∙ sym (value-beyond f row power t s m)
 
   module _ (few : row .b * natAbs (n .fraction .0) ≤ 5 * longestRead) (h : n .exponent .power .1 ≤ greatestExponent) (small : row .c * n .exponent .power .1 ≤ 5 * greatestExponent) where
-    value-is : (a c : ℕ) → a ≡ numerator row power s → c ≡ denominator row power s → floatOf f a c ≡ valueOf f row power t s
+    value-is : (a c : ℕ) → a ≡ numerator row power s → c ≡ denominator row power s → floatOf f (n .negative) a c ≡ valueOf f row power t s
     value-is a c p q =
         let k = cut in
         let m : magnitude power (s .tail) ≤ greatestExponent = omega arith in
-        ap₂ (floatOf f) p q ∙ sym (value-within f row power t s m)
+        ap₂ (floatOf f (n .negative)) p q ∙ ap (λ (b : Bool). floatOf f b (numerator row power s) (denominator row power s)) (ap (λ (x : Number). x .negative) is) ∙ sym (value-within f row power t s m)
 
     exact : n .exponent .power .1 ≡ magnitude power (s .tail)
     exact = let k = cut in omega arith
@@ -77,12 +77,12 @@ module _ (f : Format) (row : Pair) (power : ℕ) (t : List ℕ) (s : Shape) (n :
         let l : row .c * magnitude power (s .tail) ≤ 5 * greatestExponent = subst (λ (m : ℕ). row .c * m ≤ 5 * greatestExponent) exact small in
         ap₂ (λ (x : Bool) (m : ℕ). clamped (pos (row .c) *ℤ signed x m)) (sign ∙ w) exact ∙ ap clamped (sym (times-signed b (row .c) _)) ∙ signed-held b lift (omega arith)
 
-    module _ (r : Answer Float) (p : Powers) (e : p ≡ powersOf places scaled) (q : r ≡ floatOf f (spelled row s * 2 ^ p .up) (2 ^ p .down)) where
+    module _ (r : Answer Float) (p : Powers) (e : p ≡ powersOf places scaled) (q : r ≡ floatOf f (n .negative) (spelled row s * 2 ^ p .up) (2 ^ p .down)) where
       -- the value by its powers of two, up and down
-      by : (b : Bool) → hasMinus (s .tail) ≡ b → (u d : ℕ) → (heightAbove (signed b lift) (pos 0) ≡ u) × (heightAbove (pos 0) (signed b lift) ≡ d) → r ≡ floatOf f (spelled row s * 2 ^ u) (2 ^ (behind + d))
+      by : (b : Bool) → hasMinus (s .tail) ≡ b → (u d : ℕ) → (heightAbove (signed b lift) (pos 0) ≡ u) × (heightAbove (pos 0) (signed b lift) ≡ d) → r ≡ floatOf f (n .negative) (spelled row s * 2 ^ u) (2 ^ (behind + d))
       by b w u d g =
           q
-          ∙ ap (λ (x : Powers). floatOf f (spelled row s * 2 ^ x .up) (2 ^ x .down)) (e ∙ ap₂ powersOf places-are (scaled-is b w))
+          ∙ ap (λ (x : Powers). floatOf f (n .negative) (spelled row s * 2 ^ x .up) (2 ^ x .down)) (e ∙ ap₂ powersOf places-are (scaled-is b w))
           ∙ rw (g .0, g .1, height-up behind .0)
 
       value-divided : hasMinus (s .tail) ≡ true → r ≡ valueOf f row power t s

@@ -1,4 +1,4 @@
--- What the code works out from a number's leading bits is what reading gives, refusal 11 included. One proof for both widths. Assumes nothing.
+-- What the code works out from a number's leading bits is what reading gives, refusal 11 included. One proof for both widths and both signs. Assumes nothing.
 use Prim.Native.Nat.{ℕ, _+_, _*_, _^_, _≤_, _<_}
 use mathlib.Core.Path.{_≡_, refl, sym, ap, ap₂, _∙_}
 use mathlib.Core.Bool.{Bool, true, false, cond}
@@ -10,6 +10,7 @@ use lib.Ieee.{fin, Format, binary32, binary64, prec, round, hid, ofBits, fits}
 use lib.Ieee.Exact.{HasValue}
 use lib.Ieee.Scale.{round-same}
 use Rattle.lexical_util.specs.Answer.{done, refused}
+use Rattle.lexical_float.specs.Encoding.{bitsOf}
 use Rattle.lexical_float.proofs.FloatLaws.{round-of-value}
 use Rattle.lexical_read_float_spec.specs.Round.{tooLarge}
 use Rattle.lexical_read_float_spec.specs.Read.{floatOf}
@@ -30,34 +31,36 @@ module _ (f : Format) (n k bits : ℕ) (clear : Bool) (i j : ℕ) (l : Leading n
   test-is : tooLarge f (n * 2 ^ i) (2 ^ j) ≡ leb (infinity f) (pattern f bits clear (k + i) j)
   test-is = too-large-bits f (n * 2 ^ i) (2 ^ j) (pow-pos j) ∙ rw bits-are
 
-  pub leading-float : ofRounded f (roundedBits f bits clear (k + i) j) ≡ floatOf f (n * 2 ^ i) (2 ^ j)
+  pub leading-float : (s : Bool) → ofRounded f s (roundedBits f bits clear (k + i) j) ≡ floatOf f s (n * 2 ^ i) (2 ^ j)
   unfolding roundedBits floatOf
-  leading-float = rw (← test-is, ← bits-are) (go (tooLarge f (n * 2 ^ i) (2 ^ j)) refl)
+  leading-float s = rw (← test-is, ← bits-are) (go (tooLarge f (n * 2 ^ i) (2 ^ j)) refl)
     where
       go : (b : Bool) → tooLarge f (n * 2 ^ i) (2 ^ j) ≡ b
-          → ofRounded f (cond b TooLarge (Bits (dropped f (n * 2 ^ i) (2 ^ j) * hid f + keeps f (n * 2 ^ i) (2 ^ j)))) ≡ cond b (refused 11 0) (done (round f false (n * 2 ^ i) (2 ^ j)))
+          → ofRounded f s (cond b TooLarge (Bits (dropped f (n * 2 ^ i) (2 ^ j) * hid f + keeps f (n * 2 ^ i) (2 ^ j)))) ≡ cond b (refused 11 0) (done (round f s (n * 2 ^ i) (2 ^ j)))
       go true e = refl
-      go false e = ap done (sym (round-bits f (n * 2 ^ i) (2 ^ j) (pow-pos j) e))
+      go false e = ap done (sym (round-bits f s (n * 2 ^ i) (2 ^ j) (pow-pos j) e))
 
 -- ---- more bits where nothing is below them
-scaled-float : (f : Format) (a c s : ℕ) → 0 < c → 0 < s → floatOf f a c ≡ floatOf f (a * s) (c * s)
+scaled-float : (f : Format) (s : Bool) (a c m : ℕ) → 0 < c → 0 < m → floatOf f s a c ≡ floatOf f s (a * m) (c * m)
 unfolding floatOf
-scaled-float f a c s C S =
-    let r : round f false a c ≡ round f false (a * s) (c * s) = round-same f false a c (a * s) (c * s) C (mul-pos C S) (rw (mul-comm c s, mul-assoc a s c)) in
-    rw (too-large-is-infinite f false a c C, too-large-is-infinite f false (a * s) (c * s) (mul-pos C S), r)
+scaled-float f s a c m C M =
+    let r : round f s a c ≡ round f s (a * m) (c * m) = round-same f s a c (a * m) (c * m) C (mul-pos C M) (rw (mul-comm c m, mul-assoc a m c)) in
+    rw (too-large-is-infinite f s a c C, too-large-is-infinite f s (a * m) (c * m) (mul-pos C M), r)
 
-pub shifted-float : (f : Format) (n i j l : ℕ) → floatOf f (n * 2 ^ i) (2 ^ j) ≡ floatOf f (n * 2 ^ l * 2 ^ i) (2 ^ (j + l))
-shifted-float f n i j l = rw (mul-right-comm n (2 ^ l) (2 ^ i), pow-add 2 j l) (scaled-float f (n * 2 ^ i) (2 ^ j) (2 ^ l) (pow-pos j) (pow-pos l))
+pub shifted-float : (f : Format) (s : Bool) (n i j l : ℕ) → floatOf f s (n * 2 ^ i) (2 ^ j) ≡ floatOf f s (n * 2 ^ l * 2 ^ i) (2 ^ (j + l))
+shifted-float f s n i j l = rw (mul-right-comm n (2 ^ l) (2 ^ i), pow-add 2 j l) (scaled-float f s (n * 2 ^ i) (2 ^ j) (2 ^ l) (pow-pos j) (pow-pos l))
 
 -- ---- zero
-zero-bits : (f : Format) → T (fits f (fin false 0 (pos 0))) × (fin false 0 (pos 0) ≡ ofBits f 0)
+zero-bits : (f : Format) (s : Bool) → T (fits f (fin s 0 (pos 0))) × (fin s 0 (pos 0) ≡ ofBits f (bitsOf f s 0))
 unfolding fits ofBits
-zero-bits binary32 = (tt, refl)
-zero-bits binary64 = (tt, refl)
+zero-bits binary32 true = (tt, refl)
+zero-bits binary32 false = (tt, refl)
+zero-bits binary64 true = (tt, refl)
+zero-bits binary64 false = (tt, refl)
 
-pub zero-float : (f : Format) (c : ℕ) → 0 < c → floatOf f 0 c ≡ done (ofBits f 0)
+pub zero-float : (f : Format) (s : Bool) (c : ℕ) → 0 < c → floatOf f s 0 c ≡ done (ofBits f (bitsOf f s 0))
 unfolding floatOf
-zero-float f c C =
-    let z = fin false 0 (pos 0) in
-    let v : HasValue z false 0 c = (refl, zero-mul c) in
-    rw (not-too-large f z false 0 c C (zero-bits f .0) v) (ap done (round-of-value f false z 0 c C (zero-bits f .0) v ∙ zero-bits f .1))
+zero-float f s c C =
+    let z = fin s 0 (pos 0) in
+    let v : HasValue z s 0 c = (refl, zero-mul c) in
+    rw (not-too-large f z s 0 c C (zero-bits f s .0) v) (ap done (round-of-value f s z 0 c C (zero-bits f s .0) v ∙ zero-bits f s .1))

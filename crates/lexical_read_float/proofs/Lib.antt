@@ -7,5 +7,6 @@ pub mod KeepLaws
 pub mod KeptLaws
 pub mod ScanLaws
 pub mod RoundLaws
+pub mod SignLaws
 pub mod BitsLaws
 pub mod TextLaws

@@ -1,17 +1,18 @@
--- The bit pattern of a rounded fraction is the digits dropped times the hidden bit, and the number kept, and it tells which fractions are too large. One proof for both widths.
+-- The bit pattern of a rounded fraction is the digits dropped times the hidden bit, and the number kept, and it tells which fractions are too large. One proof for both widths and both signs.
 -- Assumes nothing.
 use Prim.Native.Nat.{ℕ, suc, _+_, _-_, _*_, _/_, _^_, _≤_, _<_}
 use mathlib.Core.Path.{_≡_, sym, ap, _∙_}
 use mathlib.Core.Logic.{inl, inr}
-use mathlib.Core.Bool.{false}
-use native.Mathlib.Nat.{le-refl, eq-or-lt-of-le, zero-add, add-mul, mul-div-cancel, suc-mul}
+use mathlib.Core.Bool.{Bool, true, false, cond}
+use native.Mathlib.Nat.{le-refl, eq-or-lt-of-le, zero-add, add-assoc, add-mul, mul-div-cancel, suc-mul}
 use native.Mathlib.Omega.{arith}
 use lib.Dec.{leb}
 use lib.Pow.{pow-pos, pow-lt}
-use lib.Ieee.{Format, prec, low, size, round, hid, ones, ofBits}
+use lib.Ieee.{Format, prec, low, size, round, hid, ones, top, ofBits}
 use lib.Ieee.Bits.{ofBits-toBits}
 use lib.Ieee.Fits.{two, reach, round-fits}
 use lib.Ieee.Scale.{grid}
+use Rattle.lexical_float.specs.Encoding.{bitsOf}
 use Rattle.lexical_float.proofs.FloatLaws.{bits-of-value}
 use Rattle.lexical_read_float_spec.specs.Round.{tooLarge}
 use Rattle.lexical_read_float_spec.proofs.Rounded.{kept-range}
@@ -35,14 +36,19 @@ pattern-is p z k P h l = elim (eq-or-lt-of-le h) [
   | inr g ↦ short p z k P g l
 ]
 
-pub round-bits : (f : Format) (a c : ℕ) → 0 < c → tooLarge f a c ≡ false → round f false a c ≡ ofBits f (dropped f a c * hid f + keeps f a c)
-round-bits f a c C h =
+-- with the sign above it
+signed-pattern : (f : Format) (s : Bool) (p q n : ℕ) → p + q ≡ n → cond s (top f) 0 + p + q ≡ bitsOf f s n
+signed-pattern f true p q n e = add-assoc (top f) p q ∙ ap (λ (k : ℕ). top f + k) e
+signed-pattern f false p q n e = rw zero-add e
+
+pub round-bits : (f : Format) (s : Bool) (a c : ℕ) → 0 < c → tooLarge f a c ≡ false → round f s a c ≡ ofBits f (bitsOf f s (dropped f a c * hid f + keeps f a c))
+round-bits f s a c C h =
     let r = rounding f a c C in
     let g = kept-range (positive f) C r (keeps f a c) (r .closest .within) in
-    sym (ofBits-toBits f (round f false a c) (round-fits f false a c))
+    sym (ofBits-toBits f (round f s a c) (round-fits f s a c))
     ∙ ap (ofBits f)
-    (rw (bits-of-value f false (round f false a c) (grid f a c) (2 ^ low f) (pow-pos (low f)) (round-value f a c C false h), mul-div-cancel (grid f a c) (pow-pos (low f)))
-    (rw zero-add (pattern-is (prec f) (keeps f a c) (dropped f a c) (positive f) (g .0) (g .1))))
+    (rw (bits-of-value f s (round f s a c) (grid f a c) (2 ^ low f) (pow-pos (low f)) (round-value f a c C s h), mul-div-cancel (grid f a c) (pow-pos (low f)))
+    (signed-pattern f s _ _ _ (pattern-is (prec f) (keeps f a c) (dropped f a c) (positive f) (g .0) (g .1))))
 
 -- ---- the test on the pattern
 infinity-is : (f : Format) → infinity f ≡ topPlace f * hid f + 2 * hid f

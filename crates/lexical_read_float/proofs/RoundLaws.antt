@@ -140,13 +140,13 @@ long : (f : Format) (bits : ℕ) → full ≤ bits → 2 ^ prec f ≤ bits
 long f bits h = let p : prec f ≤ 58 = le-trans (prec-small f) (lit≤ tt) in le-trans (pow-mono p) h
 
 abbrev Answers : Format → Kept → ℕ → ℕ → Rounded → Type 0
-Answers f k up down r = ((n : ℕ) → Holds n k → ofRounded f r ≡ floatOf f (n * 2 ^ up) (2 ^ down)) × IsFinite f r
+Answers f k up down r = ((s : Bool) (n : ℕ) → Holds n k → ofRounded f s r ≡ floatOf f s (n * 2 ^ up) (2 ^ down)) × IsFinite f r
 
 module _ (f : Format) (k : Kept) (up down : ℕ) where
   pub zero-kept : IsFull k → k .bits ≡ 0 → Answers f k up down (Bits 0)
   zero-kept is-full e =
       let z : k .below ≡ 0 = elim (eq-zero-or-pos (k .below)) [ inl e ↦ e | inr p ↦ absurd (let g = is-full p in omega arith) ] in
-      (λ n h. rw (whole-is n (k .bits) (k .below) (k .clear) z (h .leads), e, zero-mul (2 ^ up)) (sym (zero-float f (2 ^ down) (pow-pos down))), some f)
+      (λ s n h. rw (whole-is n (k .bits) (k .below) (k .clear) z (h .leads), e, zero-mul (2 ^ up)) (sym (zero-float f s (2 ^ down) (pow-pos down))), some f)
     where
       some : (f : Format) → 0 < infinity f
       some binary32 = omega arith
@@ -155,19 +155,19 @@ module _ (f : Format) (k : Kept) (up down : ℕ) where
   pub long-kept : (r : Rounded) → full ≤ k .bits → r ≡ roundedBits f (k .bits) (k .clear) (k .below + up) down → Answers f k up down r
   long-kept r l is =
       rw is (
-        λ n h. leading-float f n (k .below) (k .bits) (k .clear) up down (h .leads) (long f (k .bits) l),
+        λ s n h. leading-float f n (k .below) (k .bits) (k .clear) up down (h .leads) (long f (k .bits) l) s,
         bits-finite f (k .bits) (k .clear) (k .below + up) down,
       )
 
-  -- nothing is below the bits: they are moved up by s
-  pub whole-kept : (r : Rounded) (s x : ℕ) → k .below ≡ 0 → x ≡ k .bits * 2 ^ s → full ≤ x → r ≡ roundedBits f x true up (down + s) → Answers f k up down r
-  whole-kept r s x e x-is l is =
+  -- nothing is below the bits: they are moved up by a shift
+  pub whole-kept : (r : Rounded) (shift x : ℕ) → k .below ≡ 0 → x ≡ k .bits * 2 ^ shift → full ≤ x → r ≡ roundedBits f x true up (down + shift) → Answers f k up down r
+  whole-kept r shift x e x-is l is =
       let w : Leading x (2 ^ 0) x true = record { rest = 0; is = omega arith; small = pow-pos 0; none = λ t. refl; some = λ t. absurd t } in
       rw is (
-        λ n h.
-            rw (whole-is n (k .bits) (k .below) (k .clear) e (h .leads), shifted-float f (k .bits) up down s, ← x-is)
-            (rw zero-add at (leading-float f x 0 x true up (down + s) w (long f x l))),
-        bits-finite f x true up (down + s),
+        λ s n h.
+            rw (whole-is n (k .bits) (k .below) (k .clear) e (h .leads), shifted-float f s (k .bits) up down shift, ← x-is)
+            (rw zero-add at (leading-float f x 0 x true up (down + shift) w (long f x l) s)),
+        bits-finite f x true up (down + shift),
       )
 
 -- ---- bits moved up to the highest place of a word

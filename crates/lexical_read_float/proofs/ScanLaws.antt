@@ -12,9 +12,10 @@ use lib.IntN.{pos, natAbs}
 use lib.ListN.{length, drop, getD, length-drop, drop-of-length-le}
 use lib.Seq.{drop-cons, drop-drop}
 use Rattle.lexical_util.specs.Digit.{digitIn, digitsValue}
+use Rattle.lexical_float.specs.Sign.{minusSign}
 use Rattle.lexical_exponent.specs.declared.exponent.DigitExponent.{DigitExponent}
-use Rattle.lexical_read_float_spec.specs.Shape.{Grammar, Sign, unsigned, plus, minus, Tail, exponent}
-use Rattle.lexical_read_float_spec.specs.Parse.{more, run, Parsed, found, stuck, mapParsed, allDigits, exponentDigits, signedExponent, parseTail, withTail, afterWhole, oneOrMore, parse}
+use Rattle.lexical_read_float_spec.specs.Shape.{Grammar, Sign, unsigned, plus, minus, Tail, exponent, Shape}
+use Rattle.lexical_read_float_spec.specs.Parse.{more, run, Parsed, found, stuck, mapParsed, allDigits, exponentDigits, signedExponent, parseTail, withTail, afterWhole, oneOrMore, parseUnsigned, beginsWith, withSign, parse}
 use Rattle.lexical_read_float_spec.specs.Read.{hasMinus, exponentPlace, longestRead}
 use Rattle.lexical_read_float_spec.proofs.RunLaws.{Head}
 use Rattle.lexical_read_float_spec.proofs.ParseLaws.{no-point}
@@ -25,7 +26,7 @@ use Rattle.lexical_read_float.specs.declared.scan.ScannedTail.the-varian
 use Rattle.lexical_read_float.specs.declared.scan.Scanned.{Scanned}
 use Rattle.lexical_read_float.specs.declared.scan.Scanned.the-variants as scanned
 use Rattle.lexical_read_float.specs.Kept.{empty, keepDigits}
-use Rattle.lexical_read_float.specs.Scan.{beginsWith, withFraction, scannedTail, scannedNumber, scannedShape, IsBounded, tooGreat}
+use Rattle.lexical_read_float.specs.Scan.{withFraction, scannedTail, scannedNumber, scannedShape, IsBounded, tooGreat}
 use Rattle.lexical_read_float.specs.Digits.{digitsFrom, endFrom}
 use Rattle.lexical_read_float.proofs.KeptLaws.{keep-append}
 
@@ -158,83 +159,99 @@ fraction-some t radix b kept end dot stop k d e q =
 abbrev counted : ℕ → DigitExponent
 counted n = record { 0 = pos n }
 
--- the mantissa's digits with what stands behind them
-shape-tail : (t : List ℕ) (b radix : ℕ) (whole : List ℕ) (dot : Bool) (fraction : List ℕ) (p : Parsed Tail)
-    → scannedShape t b radix (mapParsed (withTail whole dot fraction) p) ≡ scannedNumber (keepDigits b empty (whole ++ fraction)) (counted (length fraction)) (scannedTail t radix p)
-shape-tail t b radix whole dot fraction (found τ) = refl
-shape-tail t b radix whole dot fraction (stuck left) = refl
+-- the sign and the mantissa's digits with what stands behind them
+shape-tail : (t : List ℕ) (b radix : ℕ) (n : Bool) (whole : List ℕ) (dot : Bool) (fraction : List ℕ) (p : Parsed Tail)
+    → scannedShape t b radix (mapParsed (withSign n) (mapParsed (withTail whole dot fraction) p)) ≡ scannedNumber n (keepDigits b empty (whole ++ fraction)) (counted (length fraction)) (scannedTail t radix p)
+shape-tail t b radix n whole dot fraction (found τ) = refl
+shape-tail t b radix n whole dot fraction (stuck left) = refl
 
--- the digits g are those in front, and what is left stands at their end
-module _ (t : List ℕ) (b : ℕ) (G : Grammar) where
+-- a sign stands inside the text
+pub sign-inside : (t : List ℕ) (n : Bool) → n ≡ beginsWith 45 t → length (minusSign n) ≤ length t
+sign-inside t true e = begins-inside t 0 45 (omega arith) (sym e)
+sign-inside t false e = omega arith
+
+-- the sign n takes the bytes up to `from`; the digits g stand behind it, and what is left stands at their end
+module _ (t : List ℕ) (b : ℕ) (G : Grammar) (n : Bool) (from : ℕ) where
   abbrev Whole : List ℕ → List ℕ → Scanned
-  Whole g left = scannedShape t b (G .exponentRadix) (oneOrMore G g left)
+  Whole g left = scannedShape t b (G .exponentRadix) (mapParsed (withSign n) (oneOrMore G g left))
 
-  empty-front : (g left : List ℕ) → left ≡ drop (length g) t → length g ≡ 0 → scanned.Wrong 0 ≡ Whole g left
-  empty-front [] left e z = ap scanned.Wrong (let y : 0 ≡ length t - length t = omega arith in y ∙ ap (λ (l : List ℕ). length t - length l) (sym e))
-  empty-front (d ∷ ds) left e z = absurd (omega arith)
+  empty-front : from ≤ length t → (g left : List ℕ) → left ≡ drop (from + length g) t → length g ≡ 0 → scanned.Wrong from ≡ Whole g left
+  empty-front h [] left e z =
+      let y : from + 0 ≡ from = omega arith in
+      ap scanned.Wrong (sym (ap (λ (l : List ℕ). length t - length l) (e ∙ ap (λ (k : ℕ). drop k t) y) ∙ place-of t from h))
+  empty-front h (d ∷ ds) left e z = absurd (omega arith)
 
   plain-front : (g left : List ℕ) → (length g ≡ 0 → ⊥) → beginsWith (G .point) left ≡ false
-      → scannedNumber (keepDigits b empty g) (counted 0) (scannedTail t (G .exponentRadix) (parseTail G left)) ≡ Whole g left
-  plain-front [] left z n = absurd (z refl)
-  plain-front (d ∷ ds) left z n =
-      ap (λ (l : List ℕ). scannedNumber (keepDigits b empty l) (counted 0) (scannedTail t (G .exponentRadix) (parseTail G left))) (sym (append-nil (d ∷ ds)))
-      ∙ sym (ap (scannedShape t b (G .exponentRadix)) (no-point G (d ∷ ds) left (head left n)) ∙ shape-tail t b (G .exponentRadix) (d ∷ ds) false [] (parseTail G left))
+      → scannedNumber n (keepDigits b empty g) (counted 0) (scannedTail t (G .exponentRadix) (parseTail G left)) ≡ Whole g left
+  plain-front [] left z none-there = absurd (z refl)
+  plain-front (d ∷ ds) left z none-there =
+      ap (λ (l : List ℕ). scannedNumber n (keepDigits b empty l) (counted 0) (scannedTail t (G .exponentRadix) (parseTail G left))) (sym (append-nil (d ∷ ds)))
+      ∙ sym (ap (λ (p : Parsed Shape). scannedShape t b (G .exponentRadix) (mapParsed (withSign n) p)) (no-point G (d ∷ ds) left (head left none-there)) ∙ shape-tail t b (G .exponentRadix) n (d ∷ ds) false [] (parseTail G left))
     where
       head : (u : List ℕ) → beginsWith (G .point) u ≡ false → Head (λ x. eqb x (G .point) ≡ false) u
       head [] e = tt
       head (x ∷ xs) e = e
 
   point-front : (g left after : List ℕ) (x : ℕ) → (length g ≡ 0 → ⊥) → left ≡ x ∷ after → eqb x (G .point) ≡ true
-      → scannedNumber (keepDigits b empty (g ++ run (G .radix) after .got)) (counted (length (run (G .radix) after .got))) (scannedTail t (G .exponentRadix) (parseTail G (run (G .radix) after .left)))
+      → scannedNumber n (keepDigits b empty (g ++ run (G .radix) after .got)) (counted (length (run (G .radix) after .got))) (scannedTail t (G .exponentRadix) (parseTail G (run (G .radix) after .left)))
       ≡ Whole g left
   unfolding afterWhole
-  point-front [] left after x z e n = absurd (z refl)
-  point-front (d ∷ ds) left after x z e n =
-      sym (ap (λ (l : List ℕ). scannedShape t b (G .exponentRadix) (afterWhole G (d ∷ ds) l)) e
-      ∙ rw n (shape-tail t b (G .exponentRadix) (d ∷ ds) true (run (G .radix) after .got) (parseTail G (run (G .radix) after .left))))
+  point-front [] left after x z e is = absurd (z refl)
+  point-front (d ∷ ds) left after x z e is =
+      sym (ap (λ (l : List ℕ). scannedShape t b (G .exponentRadix) (mapParsed (withSign n) (afterWhole G (d ∷ ds) l))) e
+      ∙ rw is (shape-tail t b (G .exponentRadix) n (d ∷ ds) true (run (G .radix) after .got) (parseTail G (run (G .radix) after .left))))
 
-  front : (end : ℕ) → end ≡ endFrom (G .radix) t 0 → length (run (G .radix) t .got) ≡ end
-  front end e = let z = e in omega arith
+  left-at : (end : ℕ) → end ≡ endFrom (G .radix) t from → run (G .radix) (drop from t) .left ≡ drop end t
+  left-at end e = left-from (G .radix) t from ∙ ap (λ (k : ℕ). drop k t) (sym e)
 
-  left-at : (end : ℕ) → end ≡ endFrom (G .radix) t 0 → run (G .radix) t .left ≡ drop end t
-  left-at end e = left-got (G .radix) t ∙ ap (λ (n : ℕ). drop n t) (front end e)
+  module _ (n-is : n ≡ beginsWith 45 t) (from-is : from ≡ length (minusSign n)) (end : ℕ) (is : end ≡ endFrom (G .radix) t from) where
+    begins : parse G t ≡ mapParsed (withSign n) (oneOrMore G (digitsFrom (G .radix) t from) (run (G .radix) (drop from t) .left))
+    unfolding parse parseUnsigned
+    begins = rw (← n-is, ← from-is)
 
-  module _ (end : ℕ) (is : end ≡ endFrom (G .radix) t 0) where
-    pub text-empty : end ≡ 0 → scanned.Wrong 0 ≡ scannedShape t b (G .exponentRadix) (parse G t)
-    unfolding parse
-    text-empty z = empty-front (run (G .radix) t .got) _ (left-got (G .radix) t) (front end is ∙ z)
+    abbrev Scan : Scanned
+    Scan = scannedShape t b (G .exponentRadix) (parse G t)
 
-    module _ (k : Kept) (begun : end ≡ 0 → ⊥) (kept : k ≡ keepDigits b empty (digitsFrom (G .radix) t 0)) (m : Mantissa) (τ : ScannedTail)
+    by-front : (r : Scanned) → r ≡ Whole (digitsFrom (G .radix) t from) (run (G .radix) (drop from t) .left) → r ≡ Scan
+    by-front r e = e ∙ ap (scannedShape t b (G .exponentRadix)) (sym begins)
+
+    pub text-empty : end ≡ from → scanned.Wrong from ≡ Scan
+    text-empty z = by-front _ (empty-front (omega (arith, from-is, sign-inside t n n-is)) (digitsFrom (G .radix) t from) _ (left-from (G .radix) t from) (omega (arith, is, z)))
+
+    module _ (k : Kept) (begun : end ≡ from → ⊥) (kept : k ≡ keepDigits b empty (digitsFrom (G .radix) t from)) (m : Mantissa) (τ : ScannedTail)
         (tail-is : τ ≡ scannedTail t (G .exponentRadix) (parseTail G (drop (m .end) t))) where
-      plain : beginsWith (G .point) (drop end t) ≡ false → m ≡ withFraction t (G .radix) b k end false → scannedNumber (m .kept) (m .fraction) τ ≡ scannedShape t b (G .exponentRadix) (parse G t)
-      unfolding parse
-      plain n e =
-          ap₂ (λ (x : Mantissa) (y : ScannedTail). scannedNumber (x .kept) (x .fraction) y) e
-          (tail-is ∙ ap (λ (x : Mantissa). scannedTail t (G .exponentRadix) (parseTail G (drop (x .end) t))) e ∙ ap (λ (l : List ℕ). scannedTail t (G .exponentRadix) (parseTail G l)) (sym (left-at end is)))
-          ∙ ap (λ (x : Kept). scannedNumber x (counted 0) (scannedTail t (G .exponentRadix) (parseTail G (run (G .radix) t .left)))) kept
-          ∙ plain-front (run (G .radix) t .got) _ (λ y. begun (sym (front end is) ∙ y)) (ap (beginsWith (G .point)) (left-at end is) ∙ n)
+      some-there : length (digitsFrom (G .radix) t from) ≡ 0 → ⊥
+      some-there y = begun (is ∙ (let z : from + length (digitsFrom (G .radix) t from) ≡ from = omega (arith, y) in z))
 
-      pointed : end < length t → beginsWith (G .point) (drop end t) ≡ true → m ≡ withFraction t (G .radix) b k end true → scannedNumber (m .kept) (m .fraction) τ ≡ scannedShape t b (G .exponentRadix) (parse G t)
-      unfolding parse
-      pointed h n e =
+      plain : beginsWith (G .point) (drop end t) ≡ false → m ≡ withFraction t (G .radix) b k end false → scannedNumber n (m .kept) (m .fraction) τ ≡ Scan
+      plain none-there e =
+          by-front _
+          (ap₂ (λ (x : Mantissa) (y : ScannedTail). scannedNumber n (x .kept) (x .fraction) y) e
+          (tail-is ∙ ap (λ (x : Mantissa). scannedTail t (G .exponentRadix) (parseTail G (drop (x .end) t))) e ∙ ap (λ (l : List ℕ). scannedTail t (G .exponentRadix) (parseTail G l)) (sym (left-at end is)))
+          ∙ ap (λ (x : Kept). scannedNumber n x (counted 0) (scannedTail t (G .exponentRadix) (parseTail G (run (G .radix) (drop from t) .left)))) kept
+          ∙ plain-front (digitsFrom (G .radix) t from) _ some-there (ap (beginsWith (G .point)) (left-at end is) ∙ none-there))
+
+      pointed : end < length t → beginsWith (G .point) (drop end t) ≡ true → m ≡ withFraction t (G .radix) b k end true → scannedNumber n (m .kept) (m .fraction) τ ≡ Scan
+      pointed h there e =
           let more = drop (end + 1) t in
           let ds = digitsFrom (G .radix) t (end + 1) in
-          ap₂ (λ (x : Mantissa) (y : ScannedTail). scannedNumber (x .kept) (x .fraction) y) e
+          by-front _
+          (ap₂ (λ (x : Mantissa) (y : ScannedTail). scannedNumber n (x .kept) (x .fraction) y) e
           (tail-is ∙ ap (λ (x : Mantissa). scannedTail t (G .exponentRadix) (parseTail G (drop (x .end) t))) e ∙ ap (λ (l : List ℕ). scannedTail t (G .exponentRadix) (parseTail G l)) (sym (left-from (G .radix) t (end + 1))))
-          ∙ ap (λ (x : Kept). scannedNumber x (counted (length ds)) (scannedTail t (G .exponentRadix) (parseTail G (run (G .radix) more .left))))
-          (ap (λ (x : Kept). keepDigits b x ds) kept ∙ keep-append b empty (digitsFrom (G .radix) t 0) ds)
-          ∙ point-front (run (G .radix) t .got) _ more (getD t end 0) (λ y. begun (sym (front end is) ∙ y)) (left-at end is ∙ at-byte t end h) (sym (ap (beginsWith (G .point)) (at-byte t end h)) ∙ n)
+          ∙ ap (λ (x : Kept). scannedNumber n x (counted (length ds)) (scannedTail t (G .exponentRadix) (parseTail G (run (G .radix) more .left))))
+          (ap (λ (x : Kept). keepDigits b x ds) kept ∙ keep-append b empty (digitsFrom (G .radix) t from) ds)
+          ∙ point-front (digitsFrom (G .radix) t from) _ more (getD t end 0) some-there (left-at end is ∙ at-byte t end h) (sym (ap (beginsWith (G .point)) (at-byte t end h)) ∙ there))
 
-      pub text-mantissa : end ≤ length t → m ≡ withFraction t (G .radix) b k end (beginsWith (G .point) (drop end t)) → scannedNumber (m .kept) (m .fraction) τ ≡ scannedShape t b (G .exponentRadix) (parse G t)
+      pub text-mantissa : end ≤ length t → m ≡ withFraction t (G .radix) b k end (beginsWith (G .point) (drop end t)) → scannedNumber n (m .kept) (m .fraction) τ ≡ Scan
       text-mantissa h = go (beginsWith (G .point) (drop end t)) refl
         where
-          go : (dot : Bool) → beginsWith (G .point) (drop end t) ≡ dot → m ≡ withFraction t (G .radix) b k end dot → scannedNumber (m .kept) (m .fraction) τ ≡ scannedShape t b (G .exponentRadix) (parse G t)
-          go true n = pointed (begins-inside t end (G .point) h n) n
-          go false n = plain n
+          go : (dot : Bool) → beginsWith (G .point) (drop end t) ≡ dot → m ≡ withFraction t (G .radix) b k end dot → scannedNumber n (m .kept) (m .fraction) τ ≡ Scan
+          go true there = pointed (begins-inside t end (G .point) h there) there
+          go false none-there = plain none-there
 
-pub number-bounded : (k : Kept) (fraction : DigitExponent) (τ : ScannedTail) (r : Scanned) → k .below ≤ 5 * longestRead → natAbs (fraction .0) ≤ longestRead → r ≡ scannedNumber k fraction τ → IsBounded r
-number-bounded k fraction τ r h l e = subst IsBounded (sym e) (go τ)
+pub number-bounded : (n : Bool) (k : Kept) (fraction : DigitExponent) (τ : ScannedTail) (r : Scanned) → k .below ≤ 5 * longestRead → natAbs (fraction .0) ≤ longestRead → r ≡ scannedNumber n k fraction τ → IsBounded r
+number-bounded n k fraction τ r h l e = subst IsBounded (sym e) (go τ)
   where
-    go : (τ : ScannedTail) → IsBounded (scannedNumber k fraction τ)
+    go : (τ : ScannedTail) → IsBounded (scannedNumber n k fraction τ)
     go (tail.Found x) = record { few-below = h; few-digits = l }
     go (tail.Wrong place) = tt

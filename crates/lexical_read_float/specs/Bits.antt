@@ -1,7 +1,7 @@
 -- What the bits that both widths share stand for. No exported contract cites it. Definitions only.
-use Prim.Native.Nat.{_+_, _<_}
+use Prim.Native.Nat.{_+_, _*_, _%_, _<_}
 use lib.IntN.{ℤ, pos}
-use lib.Ieee.{Float, Format, ofBits}
+use lib.Ieee.{Float, Format, top, ofBits}
 use Rattle.lexical_util.specs.Answer.{Answer, done, refused}
 use Rattle.lexical_exponent.specs.Exponent.{heightAbove}
 use Rattle.lexical_read_float.specs.Pattern.{infinity}
@@ -13,9 +13,9 @@ abbrev pub ofFloatBits : Format → FloatBits → Answer Float
 ofFloatBits f (Bits n) = done (ofBits f n)
 ofFloatBits f (Refused r) = refused (r .number) (r .place)
 
--- bits below the infinity's
+-- below the sign, bits below the infinity's
 abbrev pub AreFinite : Format → FloatBits → Type 0
-AreFinite f (Bits n) = n < infinity f
+AreFinite f (Bits n) = (n < 2 * top f) × (n % top f < infinity f)
 AreFinite f (Refused r) = Unit {0}
 
 -- the powers of two of a value, from what stands behind the point and from its exponent, both in bits

@@ -2,7 +2,6 @@
 use Prim.Native.Nat.{ℕ, _+_, _-_, _≤_, min, _*_}
 use mathlib.Core.Bool.{Bool, true, false}
 use mathlib.Core.List.{List, [], _∷_, _++_}
-use lib.Dec.{eqb}
 use lib.IntN.{pos, natAbs}
 use lib.ListN.{length}
 use Rattle.lexical_exponent.specs.declared.exponent.DigitExponent.{DigitExponent}
@@ -23,11 +22,6 @@ use Rattle.lexical_read_float.specs.Digits.{digitsFrom, endFrom}
 abbrev pub grammar : ℕ → ℕ → ℕ → ℕ → Grammar
 grammar radix exponentRadix point mark = record { radix = radix; exponentRadix = exponentRadix; point = point; mark = mark }
 
--- whether a text begins with a byte
-abbrev pub beginsWith : ℕ → List ℕ → Bool
-beginsWith byte [] = false
-beginsWith byte (x ∷ xs) = eqb x byte
-
 -- the digits kept up to place `end` of a text t, with those behind the point if it stands there
 abbrev pub withFraction : List ℕ → ℕ → ℕ → Kept → ℕ → Bool → Mantissa
 withFraction t radix b kept end true = record { end = endFrom radix t (end + 1); kept = keepDigits b kept (digitsFrom radix t (end + 1)); fraction = record { 0 = pos (length (digitsFrom radix t (end + 1))) } }
@@ -45,14 +39,15 @@ abbrev pub scannedTail : List ℕ → ℕ → Parsed Tail → ScannedTail
 scannedTail t radix (found τ) = tail.Found (exponentOf t radix τ)
 scannedTail t radix (stuck left) = tail.Wrong (length t - length left)
 
--- a mantissa with what stands behind it
-abbrev pub scannedNumber : Kept → DigitExponent → ScannedTail → Scanned
-scannedNumber kept fraction (tail.Found exponent) = scanned.Found (record { kept = kept; fraction = fraction; exponent = exponent })
-scannedNumber kept fraction (tail.Wrong place) = scanned.Wrong place
+-- the sign and a mantissa with what stands behind it
+abbrev pub scannedNumber : Bool → Kept → DigitExponent → ScannedTail → Scanned
+scannedNumber negative kept fraction (tail.Found exponent) = scanned.Found (record { negative = negative; kept = kept; fraction = fraction; exponent = exponent })
+scannedNumber negative kept fraction (tail.Wrong place) = scanned.Wrong place
 
 -- the numbers of a text t of shape s, whose digits have b bits
 abbrev pub numberOf : List ℕ → ℕ → ℕ → Shape → Number
 numberOf t b exponentRadix s = record {
+  negative = s .negative;
   kept = keepDigits b empty (s .whole ++ s .fraction);
   fraction = record { 0 = pos (length (s .fraction)) };
   exponent = exponentOf t exponentRadix (s .tail);

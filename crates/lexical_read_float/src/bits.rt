@@ -1,18 +1,18 @@
 // The bits of the float that a text is read as, or the first refusal: one body on u64, with the width beside it.
 ghost use mathlib.Core.Path.{_≡_};
 ghost use mathlib.Core.List.{List, _++_};
-ghost use Prim.Native.Nat.{ℕ, _^_, _≤_, _*_};
+ghost use Prim.Native.Nat.{ℕ, _^_, _≤_, _<_, _*_};
 ghost use lib.IntN.{pos};
-ghost use lib.Ieee.{Format};
 ghost use Rattle.lexical_util.specs.Answer.{done};
 ghost use Rattle.lexical_exponent.specs.Exponent.{heightAbove};
 ghost use Rattle.lexical_util.specs.Digit.{AreDigits};
-ghost use Rattle.lexical_float.specs.Encoding.{ofWidth};
+ghost use Rattle.lexical_float.specs.Encoding.{ofWidth, bitsOf};
 ghost use Rattle.lexical_format.specs.Format.{readingFormat};
 ghost use Rattle.lexical_read_float_spec.specs.Shape.{Shape};
 ghost use Rattle.lexical_read_float_spec.specs.Read.{grammarOf, valueOf, readText, longestRead, greatestExponent};
 ghost use Rattle.lexical_read_float.specs.Scan.{numberOf, Bounded};
 ghost use Rattle.lexical_read_float.specs.Kept.{IsFull};
+ghost use Rattle.lexical_read_float.specs.Pattern.{infinity};
 ghost use Rattle.lexical_read_float.specs.Rounding.{ofRounded, IsFinite};
 ghost use Rattle.lexical_read_float.specs.Bits.{ofFloatBits, AreFinite, powersOf};
 use crate::round::Rounded;
@@ -25,6 +25,7 @@ use lexical_exponent::digits_in_bits;
 use lexical_exponent::height_above;
 use lexical_exponent::powers_in_bits;
 use lexical_float::Width;
+use lexical_float::encoding_of;
 use lexical_format::NumberFormat;
 use lexical_format::Options;
 use lexical_format::Pair;
@@ -40,13 +41,26 @@ pub(crate) enum FloatBits {
     Refused(Refusal),
 }
 
-// 11: too large.
-fn rounded_bits(rounded: Rounded) -> FloatBits
-    ensures { λ r. ⌜ ((f : Format) → ofFloatBits f r ≡ ofRounded f rounded) ⌝ }
-    ensures finite { λ r. ⌜ ((f : Format) → IsFinite f rounded → AreFinite f r) ⌝ }
+// The bits of a float with its sign, from those below it.
+fn signed_bits(bits: u64, negative: bool, width: Width) -> u64
+    requires { ⌜ bits < infinity (ofWidth width) ⌝ }
+    ensures { λ r. ⌜ r ≡ bitsOf (ofWidth width) negative bits ⌝ }
+{
+    let encoding = encoding_of(width);
+    if negative {
+        return encoding.sign_mask + bits;
+    }
+    bits
+}
+
+// 11: too large, of the magnitude.
+fn rounded_bits(rounded: Rounded, negative: bool, width: Width) -> FloatBits
+    requires { ⌜ IsFinite (ofWidth width) rounded ⌝ }
+    ensures { λ r. ⌜ ofFloatBits (ofWidth width) r ≡ ofRounded (ofWidth width) negative rounded ⌝ }
+    ensures finite { λ r. ⌜ AreFinite (ofWidth width) r ⌝ }
 {
     match rounded {
-        Rounded::Bits(bits) => FloatBits::Bits(bits),
+        Rounded::Bits(bits) => FloatBits::Bits(signed_bits(bits, negative, width)),
         Rounded::TooLarge => FloatBits::Refused(Refusal {
             number: 11,
             place: 0,
@@ -93,7 +107,7 @@ fn value_bits(number: Number, row: Pair, width: Width) -> FloatBits
     let places = digits_in_bits(fraction, row.b);
     let powers = powers_of(places, powers_in_bits(power, row.c));
     let rounded = round_kept(kept, powers.up, powers.down, width);
-    rounded_bits(rounded)
+    rounded_bits(rounded, number.negative, width)
 }
 
 // A text in a format that passed the check with the row: 12, 9, then its value. Each width calls it behind the check, so that no format is copied on its way to both.

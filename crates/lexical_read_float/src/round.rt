@@ -1,5 +1,6 @@
-// From the kept bits of a number to the bits of the nearest float: one body on u64 for both widths.
+// From the kept bits of a number to the bits of the nearest float below its sign: one body on u64 for both widths, whatever the sign.
 ghost use mathlib.Core.Path.{_≡_};
+ghost use mathlib.Core.Bool.{Bool};
 ghost use Prim.Native.Nat.{ℕ, _+_, _*_, _/_, _^_, _≤_, _<_};
 ghost use lib.Ieee.{low};
 ghost use Rattle.lexical_float.specs.Encoding.{ofWidth};
@@ -105,7 +106,7 @@ fn round_bits(bits: u64, clear: bool, up: u32, down: u32, width: Width) -> Round
 // The number that the bits stand for, times 2^up / 2^down. Where nothing is below the bits, they are first moved up to the highest place.
 pub(crate) fn round_kept(kept: Kept, up: u32, down: u32, width: Width) -> Rounded
     requires { ⌜ IsFull kept × (kept .below ≤ 5 * longestRead) × (up ≤ 200000) × (down ≤ 200000) ⌝ }
-    ensures { λ r. ⌜ ((n : ℕ) → Holds n kept → ofRounded (ofWidth width) r ≡ floatOf (ofWidth width) (n * 2 ^ up) (2 ^ down)) ⌝ }
+    ensures { λ r. ⌜ ((s : Bool) (n : ℕ) → Holds n kept → ofRounded (ofWidth width) s r ≡ floatOf (ofWidth width) s (n * 2 ^ up) (2 ^ down)) ⌝ }
     ensures finite { λ r. ⌜ IsFinite (ofWidth width) r ⌝ }
 {
     let bits = kept.bits;

@@ -5,14 +5,15 @@ ghost use Prim.Native.Nat.{ℕ, _+_, _*_, _≤_, _<_};
 ghost use lib.IntN.{natAbs};
 ghost use lib.ListN.{length, drop};
 ghost use Rattle.lexical_read_float_spec.specs.Shape.{Sign, exponent};
-ghost use Rattle.lexical_read_float_spec.specs.Parse.{exponentDigits, signedExponent, parseTail, parse};
+ghost use Rattle.lexical_read_float_spec.specs.Parse.{beginsWith, exponentDigits, signedExponent, parseTail, parse};
 ghost use Rattle.lexical_read_float_spec.specs.Read.{hasMinus, longestRead};
-ghost use Rattle.lexical_read_float.specs.Scan.{grammar, beginsWith, withFraction, scannedTail, scannedNumber, scannedShape, IsBounded};
+ghost use Rattle.lexical_read_float.specs.Scan.{grammar, withFraction, scannedTail, scannedNumber, scannedShape, IsBounded};
 use crate::digits::exponent_digits;
 use crate::digits::mantissa_digits;
 use crate::kept::Kept;
 use lexical_exponent::BaseExponent;
 use lexical_exponent::DigitExponent;
+use lexical_float::minus_length;
 
 // A text's exponent: its sign and its magnitude, or 32,768 for any above, in powers of the base, and the place of its first digit. Without one, 0 at the text's end.
 pub(crate) struct Exponent {
@@ -25,8 +26,9 @@ pub(crate) enum ScannedTail {
     Wrong(usize),
 }
 
-// What a text spells: its digits, how many of them stand behind the point, and its exponent.
+// What a text spells: whether "-" stands in front, its digits, how many of them stand behind the point, and its exponent.
 pub(crate) struct Number {
+    pub negative: bool,
     pub kept: Kept,
     pub fraction: DigitExponent,
     pub exponent: Exponent,
@@ -93,12 +95,13 @@ fn scan_tail(text: &[u8], from: usize, radix: u32, mark: u8) -> ScannedTail
     scan_exponent(text, from, radix)
 }
 
-// The mantissa's digits with what stands behind them.
-fn with_tail(kept: Kept, fraction: DigitExponent, tail: ScannedTail) -> Scanned
-    ensures { λ r. ⌜ r ≡ scannedNumber kept fraction tail ⌝ }
+// The sign and the mantissa's digits with what stands behind them.
+fn with_tail(negative: bool, kept: Kept, fraction: DigitExponent, tail: ScannedTail) -> Scanned
+    ensures { λ r. ⌜ r ≡ scannedNumber negative kept fraction tail ⌝ }
 {
     match tail {
         ScannedTail::Found(exponent) => Scanned::Found(Number {
+            negative,
             kept,
             fraction,
             exponent,
@@ -162,20 +165,22 @@ pub(crate) fn scan(
     ensures { λ r. ⌜ r ≡ scannedShape (now (text .entry)) b «exponent_radix» (parse (grammar radix «exponent_radix» point mark) (now (text .entry))) ⌝ }
     ensures bounded { λ r. ⌜ IsBounded r ⌝ }
 {
+    let negative = stands_at(text, 0, b'-');
+    let sign = minus_length(negative);
     let start = Kept {
         bits: 0,
         below: 0,
         clear: true,
     };
-    let whole = mantissa_digits(text, 0, radix, b, start);
+    let whole = mantissa_digits(text, sign, radix, b, start);
     let end = whole.end;
     let kept = whole.kept;
-    if end == 0 {
-        return Scanned::Wrong(0);
+    if end == sign {
+        return Scanned::Wrong(sign);
     }
     let mantissa = with_fraction(text, end, radix, b, point, kept);
     let all = mantissa.kept;
     let fraction = mantissa.fraction;
     let tail = scan_tail(text, mantissa.end, exponent_radix, mark);
-    with_tail(all, fraction, tail)
+    with_tail(negative, all, fraction, tail)
 }

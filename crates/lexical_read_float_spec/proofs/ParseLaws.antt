@@ -10,8 +10,9 @@ use borrow.Author.Tests.{eq-eqb, ne-eqb, ltb-true, ltb-false}
 use lib.Dec.{ltb, eqb}
 use Rattle.lexical_util.specs.Digit.{digitByte, digitIn, AreDigits}
 use Rattle.lexical_util.proofs.DigitLaws.{byte-figure, byte-capital}
+use Rattle.lexical_float.specs.Sign.{minusSign}
 use Rattle.lexical_read_float_spec.specs.Shape.{Grammar, Sign, unsigned, plus, minus, Tail, absent, exponent, Shape, signBytes, tailBytes, fractionBytes, print, Some, TailFits, FractionFits, WellFormed}
-use Rattle.lexical_read_float_spec.specs.Parse.{Run, found, mapParsed, allDigits, exponentDigits, signedExponent, parseTail, withTail, afterWhole, oneOrMore, parse}
+use Rattle.lexical_read_float_spec.specs.Parse.{Run, found, mapParsed, allDigits, exponentDigits, signedExponent, parseTail, withTail, afterWhole, oneOrMore, parseUnsigned, beginsWith, withSign, parse}
 use Rattle.lexical_read_float_spec.proofs.RunLaws.{Head, Ends, run-digits, run-all}
 
 -- what check 3 and the checks of the radices give: point and mark are no digits of the radix, and differ
@@ -42,6 +43,14 @@ pub no-point : (G : Grammar) (whole u : List ℕ) → Head (λ x. eqb x (G .poin
 unfolding afterWhole
 no-point G whole [] h = unfold parseTail in refl
 no-point G whole (x ∷ xs) h = rw h
+
+-- what stands behind the sign
+abbrev pub unsignedBytes : Grammar → Shape → List ℕ
+unsignedBytes G s = map digitByte (s .whole) ++ (fractionBytes G (s .dot) (s .fraction) ++ tailBytes G (s .tail))
+
+-- the sign has no part in it
+pub formed-signed : (G : Grammar) (n : Bool) (s : Shape) → WellFormed G s → WellFormed G (withSign n s)
+formed-signed G n s w = record { some-whole = w .some-whole; whole-digits = w .whole-digits; fraction-fits = w .fraction-fits; fraction-digits = w .fraction-digits; tail-fits = w .tail-fits }
 
 module _ (G : Grammar) (A : Apart G) where
   all-digits : (s : Sign) (ds : List ℕ) → Some ds → AreDigits (G .exponentRadix) ds → exponentDigits (G .exponentRadix) s (map digitByte ds) ≡ found (exponent s ds)
@@ -80,9 +89,10 @@ module _ (G : Grammar) (A : Apart G) where
   ends-fraction true ds τ = A .point-off
   ends-fraction false ds τ = ends-tail τ
 
-  pub parse-print : (s : Shape) → WellFormed G s → parse G (print G s) ≡ found s
-  unfolding parse print
-  parse-print s w =
+  -- ---- a text without its sign
+  unsigned-back : (s : Shape) → WellFormed G s → parseUnsigned G (unsignedBytes G s) ≡ found (withTail (s .whole) (s .dot) (s .fraction) (s .tail))
+  unfolding parseUnsigned
+  unsigned-back s w =
       rw (run-digits (G .radix) (s .whole) (fractionBytes G (s .dot) (s .fraction) ++ tailBytes G (s .tail)) (A .radix-small) (w .whole-digits) (ends-fraction (s .dot) (s .fraction) (s .tail)))
       (one-or-more (s .whole) _ (w .some-whole)
       ∙ fraction-back (s .whole) (s .dot) (s .fraction) (s .tail) (w .fraction-fits) (w .fraction-digits) (w .tail-fits))
@@ -90,3 +100,25 @@ module _ (G : Grammar) (A : Apart G) where
       one-or-more : (ds left : List ℕ) → Some ds → oneOrMore G ds left ≡ afterWhole G ds left
       one-or-more [] left n = absurd n
       one-or-more (d ∷ ds) left n = refl
+
+  -- it begins with a digit
+  no-minus : (ds rest : List ℕ) → Some ds → AreDigits (G .radix) ds → beginsWith 45 (map digitByte ds ++ rest) ≡ false
+  no-minus [] rest n all = absurd n
+  no-minus (d ∷ ds) rest n all = byte-no-sign d (lt-of-lt-of-le (all .0) (A .radix-small)) .1
+
+  -- ---- a text with its sign
+  pub print-sign : (s : Shape) → WellFormed G s → beginsWith 45 (print G s) ≡ s .negative
+  unfolding print
+  print-sign s w = go (s .negative)
+    where
+      go : (n : Bool) → beginsWith 45 (minusSign n ++ unsignedBytes G s) ≡ n
+      go true = refl
+      go false = no-minus (s .whole) _ (w .some-whole) (w .whole-digits)
+
+  pub parse-print : (s : Shape) → WellFormed G s → parse G (print G s) ≡ found s
+  unfolding parse print
+  parse-print s w = go (s .negative) (print-sign s w)
+    where
+      go : (n : Bool) → beginsWith 45 (minusSign n ++ unsignedBytes G s) ≡ n → parse G (minusSign n ++ unsignedBytes G s) ≡ found (withSign n s)
+      go true e = ap (mapParsed (withSign true)) (unsigned-back s w)
+      go false e = rw e (ap (mapParsed (withSign false)) (unsigned-back s w))

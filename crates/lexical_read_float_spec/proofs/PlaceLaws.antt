@@ -12,10 +12,11 @@ use lib.ListN.{length, take, drop, length-append, take-append-drop}
 use lib.Seq.{take-append-le, take-at}
 use Rattle.lexical_util.specs.Digit.{digitByte, digitIn, AreDigits}
 use Rattle.lexical_util.proofs.DigitLaws.{in-digit}
+use Rattle.lexical_float.specs.Sign.{minusSign}
 use Rattle.lexical_read_float_spec.specs.Shape.{Grammar, Sign, unsigned, plus, minus, Tail, absent, exponent, Shape, signBytes, tailBytes, fractionBytes, print, Some, TailFits, FractionFits, WellFormed, WellShaped, Begins}
-use Rattle.lexical_read_float_spec.specs.Parse.{Run, run, Parsed, found, stuck, mapParsed, allDigits, exponentDigits, signedExponent, parseTail, withTail, afterPoint, afterWhole, oneOrMore, parse, WrongAt}
+use Rattle.lexical_read_float_spec.specs.Parse.{Run, run, Parsed, found, stuck, mapParsed, allDigits, exponentDigits, signedExponent, parseTail, withTail, afterPoint, afterWhole, oneOrMore, parseUnsigned, withSign, parse, WrongAt}
 use Rattle.lexical_read_float_spec.proofs.RunLaws.{Head, Ends, IsRun, is-run, run-stops, run-digits, run-all}
-use Rattle.lexical_read_float_spec.proofs.ParseLaws.{Apart, byte-no-sign, no-sign, no-point, parse-print}
+use Rattle.lexical_read_float_spec.proofs.ParseLaws.{Apart, byte-no-sign, no-sign, no-point, unsignedBytes, formed-signed, parse-print}
 
 abbrev pub IsFound : {A : Type 0} → Parsed A → Type 0
 IsFound (found a) = Unit {0}
@@ -95,6 +96,20 @@ module _ {A : Type 0} (radix : ℕ) (small : radix ≤ 32) (Q : List ℕ → Lis
             ∙ w .stays x xs ys e;
       }
 
+-- what is found behind one or more digits begins with no sign
+abbrev NoSign : ℕ → Type 0
+NoSign x = (eqb x 43 ≡ false) × (eqb x 45 ≡ false)
+
+digit-no-sign : {A : Type 0} (radix : ℕ) (small : radix ≤ 32) (Q : List ℕ → List ℕ → Parsed A) → ((left : List ℕ) → IsFound (Q [] left) → ⊥) → (u : List ℕ) → IsFound (afterRun radix small Q u) → Head NoSign u
+digit-no-sign radix small Q one [] h = tt
+digit-no-sign radix small Q one (x ∷ xs) h = go (digitIn radix x) refl
+  where
+    go : (o : Option ℕ) → digitIn radix x ≡ o → NoSign x
+    go none e = absurd (one (x ∷ xs) (subst (λ (r : Run). IsFound (Q (r .got) (r .left))) (run-stops radix x xs e) h))
+    go (some d) e =
+        let k = in-digit radix x d e in
+        subst NoSign (k .0) (byte-no-sign d (lt-of-lt-of-le (k .1) small))
+
 -- ---- each reader: what it finds prints what it was found in, or it is stuck as `Stuck` says
 module _ (G : Grammar) (A : Apart G) where
   -- the exponent's digits behind the sign s
@@ -136,24 +151,11 @@ module _ (G : Grammar) (A : Apart G) where
   OfSigned t (found (exponent z ds)) = (Some ds × AreDigits (G .exponentRadix) ds) × (signBytes z ++ map digitByte ds ≡ t)
   OfSigned t (stuck left) = Stuck (signedExponent (G .exponentRadix)) t left
 
-  abbrev NoSign : ℕ → Type 0
-  NoSign x = (eqb x 43 ≡ false) × (eqb x 45 ≡ false)
-
   -- a sign in front
   sign-in-front : (s : Sign) (x : ℕ) (t : List ℕ) (p : Parsed Tail) → x ∷ t ≡ signBytes s ++ t → ((u : List ℕ) → signedExponent (G .exponentRadix) (x ∷ u) ≡ exponentDigits (G .exponentRadix) s u) → OfDigits s t p → OfSigned (x ∷ t) p
   sign-in-front s x t (found absent) b same h = h
   sign-in-front s x t (found (exponent z ds)) b same h = (h .1, ap (λ (y : Sign). signBytes y ++ map digitByte ds) (h .0) ∙ ap (λ (l : List ℕ). signBytes s ++ l) (h .2) ∙ sym b)
   sign-in-front s x t (stuck left) b same h = in-front (exponentDigits (G .exponentRadix) s) (signedExponent (G .exponentRadix)) x t left same h
-
-  digit-no-sign : (u : List ℕ) → IsFound (exponentDigits (G .exponentRadix) unsigned u) → Head NoSign u
-  digit-no-sign [] h = tt
-  digit-no-sign (x ∷ xs) h = go (digitIn (G .exponentRadix) x) refl
-    where
-      go : (o : Option ℕ) → digitIn (G .exponentRadix) x ≡ o → NoSign x
-      go none e = absurd (subst (λ (r : Run). IsFound (allDigits unsigned (r .got) (r .left))) (run-stops (G .exponentRadix) x xs e) h)
-      go (some d) e =
-          let k = in-digit (G .exponentRadix) x d e in
-          subst NoSign (k .0) (byte-no-sign d (lt-of-lt-of-le (k .1) (A .power-small)))
 
   unsigned-same : (u : List ℕ) → Head NoSign u → signedExponent (G .exponentRadix) u ≡ exponentDigits (G .exponentRadix) unsigned u
   unsigned-same [] h = unfold signedExponent run in refl
@@ -162,7 +164,7 @@ module _ (G : Grammar) (A : Apart G) where
   no-sign-in-front : (t : List ℕ) (p : Parsed Tail) → Head NoSign t → OfDigits unsigned t p → OfSigned t p
   no-sign-in-front t (found absent) n h = h
   no-sign-in-front t (found (exponent z ds)) n h = (h .1, ap (λ (y : Sign). signBytes y ++ map digitByte ds) (h .0) ∙ h .2)
-  no-sign-in-front t (stuck left) n h = agreeing NoSign (exponentDigits (G .exponentRadix) unsigned) (signedExponent (G .exponentRadix)) t left unsigned-same digit-no-sign n h
+  no-sign-in-front t (stuck left) n h = agreeing NoSign (exponentDigits (G .exponentRadix) unsigned) (signedExponent (G .exponentRadix)) t left unsigned-same (digit-no-sign (G .exponentRadix) (A .power-small) (allDigits unsigned) (λ l k. k)) n h
 
   of-signed : (t : List ℕ) → OfSigned t (signedExponent (G .exponentRadix) t)
   unfolding signedExponent
@@ -269,10 +271,10 @@ module _ (G : Grammar) (A : Apart G) where
           (behind-point whole xs (parseTail G (run (G .radix) xs .left)) (of-tail (run (G .radix) xs .left)))
       go false e = without-point whole (x ∷ xs) (parseTail G (x ∷ xs)) e (of-tail (x ∷ xs))
 
-  -- the whole text
-  abbrev pub OfText : List ℕ → Parsed Shape → Type 0
-  OfText t (found s) = WellFormed G s × (print G s ≡ t)
-  OfText t (stuck left) = Stuck (parse G) t left
+  -- the whole text behind its sign
+  abbrev OfUnsigned : List ℕ → Parsed Shape → Type 0
+  OfUnsigned t (found s) = WellFormed G s × (unsignedBytes G s ≡ t)
+  OfUnsigned t (stuck left) = Stuck (parseUnsigned G) t left
 
   whole-head : (First : ℕ → Type 0) → First (G .mark) → First (G .point) → (whole u : List ℕ) → IsFound (oneOrMore G whole u) → Head First u
   whole-head First m p [] u h = absurd h
@@ -283,11 +285,11 @@ module _ (G : Grammar) (A : Apart G) where
       go true e = subst First (sym (eqb-true x (G .point) e)) p
       go false e = tail-head First m (x ∷ xs) (found-tail (withTail (d ∷ ds) false []) (parseTail G (x ∷ xs)) (subst IsFound (no-point G (d ∷ ds) (x ∷ xs) e) h))
 
-  pub of-text : (t : List ℕ) → OfText t (parse G t)
-  unfolding parse
-  of-text t = go (run (G .radix) t .got) (run (G .radix) t .left) (is-run (G .radix) t .digits) (is-run (G .radix) t .ends) (is-run (G .radix) t .splits)
+  of-unsigned : (t : List ℕ) → OfUnsigned t (parseUnsigned G t)
+  unfolding parseUnsigned
+  of-unsigned t = go (run (G .radix) t .got) (run (G .radix) t .left) (is-run (G .radix) t .digits) (is-run (G .radix) t .ends) (is-run (G .radix) t .splits)
     where
-      found-is : (d : ℕ) (ds left : List ℕ) (p : Parsed Shape) → AreDigits (G .radix) (d ∷ ds) → Ends (G .radix) left → map digitByte (d ∷ ds) ++ left ≡ t → OfWhole (d ∷ ds) left p → OfText t p
+      found-is : (d : ℕ) (ds left : List ℕ) (p : Parsed Shape) → AreDigits (G .radix) (d ∷ ds) → Ends (G .radix) left → map digitByte (d ∷ ds) ++ left ≡ t → OfWhole (d ∷ ds) left p → OfUnsigned t p
       found-is d ds left (found s) all e q h = (
         record {
           some-whole = subst Some (sym (h .whole-is)) tt;
@@ -296,13 +298,13 @@ module _ (G : Grammar) (A : Apart G) where
           fraction-digits = h .digits;
           tail-fits = h .tail;
         },
-        unfold print in ap (λ (w : List ℕ). map digitByte w ++ (fractionBytes G (s .dot) (s .fraction) ++ tailBytes G (s .tail))) (h .whole-is) ∙ ap (λ (l : List ℕ). map digitByte (d ∷ ds) ++ l) (h .bytes) ∙ q,
+        ap (λ (w : List ℕ). map digitByte w ++ (fractionBytes G (s .dot) (s .fraction) ++ tailBytes G (s .tail))) (h .whole-is) ∙ ap (λ (l : List ℕ). map digitByte (d ∷ ds) ++ l) (h .bytes) ∙ q,
       )
       found-is d ds left (stuck after) all e q h =
           after-run (G .radix) (A .radix-small) (oneOrMore G) t after (record { got = d ∷ ds; left = left }) (record { digits = all; ends = e; splits = q })
           (whole-head (λ y. digitIn (G .radix) y ≡ none) (A .mark-off) (A .point-off)) h
 
-      go : (got left : List ℕ) → AreDigits (G .radix) got → Ends (G .radix) left → map digitByte got ++ left ≡ t → OfText t (oneOrMore G got left)
+      go : (got left : List ℕ) → AreDigits (G .radix) got → Ends (G .radix) left → map digitByte got ++ left ≡ t → OfUnsigned t (oneOrMore G got left)
       go [] left all e q = record {
         start = [];
         splits = q;
@@ -311,6 +313,53 @@ module _ (G : Grammar) (A : Apart G) where
         stays = λ x xs ys p. ap (λ (r : Run). oneOrMore G (r .got) (r .left)) (run-stops (G .radix) x ys (subst (Ends (G .radix)) p e));
       }
       go (d ∷ ds) left all e q = found-is d ds left (afterWhole G (d ∷ ds) left) all e q (of-whole (d ∷ ds) left)
+
+  -- with its sign
+  abbrev pub OfText : List ℕ → Parsed Shape → Type 0
+  OfText t (found s) = WellFormed G s × (print G s ≡ t)
+  OfText t (stuck left) = Stuck (parse G) t left
+
+  -- a text of either sign, behind which stands u
+  abbrev behindSign : Bool → List ℕ → Parsed Shape
+  behindSign n u = mapParsed (withSign n) (parseUnsigned G u)
+
+  signed-found : (n : Bool) (t : List ℕ) (s : Shape) → OfUnsigned t (found s) → OfText (minusSign n ++ t) (found (withSign n s))
+  signed-found n t s h = (formed-signed G n s (h .0), unfold print in ap (λ (l : List ℕ). minusSign n ++ l) (h .1))
+
+  abbrev NoMinus : ℕ → Type 0
+  NoMinus x = eqb x 45 ≡ false
+
+  found-no-minus : (u : List ℕ) (p : Parsed Shape) → parseUnsigned G u ≡ p → IsFound (mapParsed (withSign false) p) → Head NoMinus u
+  unfolding parseUnsigned
+  found-no-minus u (stuck left) e h = absurd h
+  found-no-minus u (found s) e h = go u (digit-no-sign (G .radix) (A .radix-small) (oneOrMore G) (λ l k. k) u (subst IsFound (sym e) tt))
+    where
+      go : (u : List ℕ) → Head NoSign u → Head NoMinus u
+      go [] n = tt
+      go (x ∷ xs) n = n .1
+
+  same-unsigned : (u : List ℕ) → Head NoMinus u → parse G u ≡ behindSign false u
+  unfolding parse
+  same-unsigned [] h = refl
+  same-unsigned (x ∷ xs) h = rw h
+
+  minus-in-front : (t : List ℕ) (p : Parsed Shape) → OfUnsigned t p → OfText (45 ∷ t) (mapParsed (withSign true) p)
+  minus-in-front t (found s) h = signed-found true t s h
+  minus-in-front t (stuck left) h = in-front (behindSign true) (parse G) 45 t left (λ u. unfold parse in refl) (mapped (withSign true) (parseUnsigned G) t left h)
+
+  without-minus : (t : List ℕ) (p : Parsed Shape) → Head NoMinus t → OfUnsigned t p → OfText t (mapParsed (withSign false) p)
+  without-minus t (found s) n h = signed-found false t s h
+  without-minus t (stuck left) n h =
+      agreeing NoMinus (behindSign false) (parse G) t left same-unsigned (λ u k. found-no-minus u (parseUnsigned G u) refl k) n (mapped (withSign false) (parseUnsigned G) t left h)
+
+  pub of-text : (t : List ℕ) → OfText t (parse G t)
+  unfolding parse
+  of-text [] = without-minus [] (parseUnsigned G []) tt (of-unsigned [])
+  of-text (x ∷ xs) = go (eqb x 45) refl
+    where
+      go : (b : Bool) → eqb x 45 ≡ b → OfText (x ∷ xs) (mapParsed (withSign b) (parseUnsigned G (drop (length (minusSign b)) (x ∷ xs))))
+      go true e = subst (λ (y : ℕ). OfText (y ∷ xs) (behindSign true xs)) (sym (eqb-true x 45 e)) (minus-in-front xs (parseUnsigned G xs) (of-unsigned xs))
+      go false e = without-minus (x ∷ xs) (parseUnsigned G (x ∷ xs)) e (of-unsigned (x ∷ xs))
 
   -- ---- THE LAWS
   clash : (s : Shape) (left : List ℕ) → found s ≡ stuck left → ⊥

@@ -1,6 +1,6 @@
 -- The laws of reading, of every format that passes the reader's checks and of every text. Assumes nothing.
 use Prim.Native.Nat.{ℕ, _-_, _*_, _≤_, _<_}
-use mathlib.Core.Path.{_≡_, refl, sym, ap, subst}
+use mathlib.Core.Path.{_≡_, refl, sym, ap, _∙_, subst}
 use mathlib.Core.Bool.{Bool, true, false, cond}
 use mathlib.Core.List.{List}
 use mathlib.Core.Option.{Option, none, some}
@@ -10,22 +10,24 @@ use borrow.Author.Tests.{lt-ltb, le-ltb, ne-eqb, eqb-false}
 use lib.Dec.{ltb}
 use lib.Pow.{pow-pos, pow-mono}
 use lib.ListN.{length}
-use lib.Ieee.{Float, Format, round}
+use lib.Ieee.{Float, nan, inf, fin, Format, round}
+use lib.Ieee.Exact.{HasValue}
 use Rattle.lexical_util.specs.Answer.{Answer, done, refused, andThen}
 use Rattle.lexical_util.specs.Digit.{digitIn, isSome, isDigit}
 use Rattle.lexical_util.proofs.AnswerLaws.{refused-done}
 use Rattle.lexical_util.proofs.RadixLaws.{radix-bounds}
+use Rattle.lexical_float.specs.Sign.{signBit}
 use Rattle.lexical_format.specs.declared.format.Pair.{Pair}
 use Rattle.lexical_format.specs.declared.format.NumberFormat.{NumberFormat}
 use Rattle.lexical_format.specs.declared.options.Options.{Options}
 use Rattle.lexical_format.specs.Format.{readingFormat}
 use Rattle.lexical_format.proofs.FormatLaws.{readable}
 use Rattle.lexical_read_float_spec.specs.Shape.{Shape, print}
-use Rattle.lexical_read_float_spec.specs.Parse.{Parsed, found, stuck, parse, ofParsed, shapeOf, WrongAt}
+use Rattle.lexical_read_float_spec.specs.Parse.{Parsed, found, stuck, beginsWith, parse, ofParsed, shapeOf, WrongAt}
 use Rattle.lexical_read_float_spec.specs.Round.{tooLarge, Nearest}
 use Rattle.lexical_read_float_spec.specs.Read.{grammarOf, magnitude, hasMinus, basePower, numerator, denominator, floatOf, exponentTooLarge, exponentPlace, valueOf, readText, readFloat, longestRead, greatestExponent}
 use Rattle.lexical_read_float_spec.specs.Claims.{PrintedIsRead, FoundIsPrinted, PlaceIsLeast, RoundIsNearest, OnlyOneIsNearest, NearestToText, ReadIsNearest, IsNearest, TextsAreServed}
-use Rattle.lexical_read_float_spec.proofs.ParseLaws.{Apart, parse-print}
+use Rattle.lexical_read_float_spec.proofs.ParseLaws.{Apart, print-sign, parse-print}
 use Rattle.lexical_read_float_spec.proofs.PlaceLaws.{found-prints, wrong-at}
 use Rattle.lexical_read_float_spec.proofs.NearestLaws.{round-nearest, only-nearest}
 
@@ -92,29 +94,42 @@ denominator-pos row power s = mul-pos (pow-pos (row .b * length (s .fraction))) 
     go false = omega arith
 
 -- a value that is read is not too large, and rounded
-float-nearest : (f : Format) (a c : ℕ) (x : Float) → 0 < c → floatOf f a c ≡ done x → Nearest f false a c x
+float-nearest : (f : Format) (s : Bool) (a c : ℕ) (x : Float) → 0 < c → floatOf f s a c ≡ done x → Nearest f s a c x
 unfolding floatOf
-float-nearest f a c x C h = go (tooLarge f a c) refl h
+float-nearest f s a c x C h = go (tooLarge f a c) refl h
   where
-    go : (b : Bool) → tooLarge f a c ≡ b → cond b (refused 11 0) (done (round f false a c)) ≡ done x → Nearest f false a c x
+    go : (b : Bool) → tooLarge f a c ≡ b → cond b (refused 11 0) (done (round f s a c)) ≡ done x → Nearest f s a c x
     go true p q = absurd (refused-done 11 0 x q)
-    go false p q = let same : round f false a c ≡ x = cc in subst (Nearest f false a c) same (round-nearest f false a c C p)
+    go false p q = let same : round f s a c ≡ x = cc in subst (Nearest f s a c) same (round-nearest f s a c C p)
 
-value-nearest : (f : Format) (row : Pair) (power : ℕ) (t : List ℕ) (s : Shape) (x : Float) → valueOf f row power t s ≡ done x → Nearest f false (numerator row power s) (denominator row power s) x
+value-nearest : (f : Format) (row : Pair) (power : ℕ) (t : List ℕ) (s : Shape) (x : Float) → valueOf f row power t s ≡ done x → Nearest f (s .negative) (numerator row power s) (denominator row power s) x
 unfolding valueOf
 value-nearest f row power t s x h = go (exponentTooLarge power (s .tail)) h
   where
-    go : (b : Bool) → elim b [ true ↦ refused 10 (exponentPlace t (s .tail)) | false ↦ floatOf f (numerator row power s) (denominator row power s) ] ≡ done x
-        → Nearest f false (numerator row power s) (denominator row power s) x
+    go : (b : Bool) → elim b [ true ↦ refused 10 (exponentPlace t (s .tail)) | false ↦ floatOf f (s .negative) (numerator row power s) (denominator row power s) ] ≡ done x
+        → Nearest f (s .negative) (numerator row power s) (denominator row power s) x
     go true q = absurd (refused-done 10 _ x q)
-    go false q = float-nearest f (numerator row power s) (denominator row power s) x (denominator-pos row power s) q
+    go false q = float-nearest f (s .negative) (numerator row power s) (denominator row power s) x (denominator-pos row power s) q
+
+-- a float has the sign of its value, and a text's shape the sign that the text begins with
+value-sign : (x : Float) (s : Bool) (a c : ℕ) → HasValue x s a c → signBit x ≡ s
+value-sign nan s a c h = absurd h
+value-sign (inf t) s a c h = absurd h
+value-sign (fin t m e) s a c h = h .0
+
+shape-sign : (F : NumberFormat) (o : Options) (row : Pair) (t : List ℕ) (s : Shape) → readingFormat F o ≡ done row → shapeOf (grammarOf F o) t ≡ done s → s .negative ≡ beginsWith 45 t
+shape-sign F o row t s e h =
+    let p = found-is-printed F o row t s e h in
+    sym (print-sign (grammarOf F o) (apart F o row e) s (p .0)) ∙ ap (beginsWith 45) (p .1)
 
 pub read-is-nearest : ReadIsNearest
 unfolding readFloat readText
 read-is-nearest f F o t x h = go (readingFormat F o) refl h
   where
     shaped : (row : Pair) → readingFormat F o ≡ done row → (a : Answer Shape) → shapeOf (grammarOf F o) t ≡ a → andThen a (valueOf f row (F .«exponent_radix») t) ≡ done x → NearestToText f F o t x
-    shaped row e (done s) p q = record { row = row; shape = s; admitted = e; shaped = p; nearest = value-nearest f row (F .«exponent_radix») t s x q }
+    shaped row e (done s) p q =
+        let n = value-nearest f row (F .«exponent_radix») t s x q in
+        record { row = row; shape = s; admitted = e; shaped = p; nearest = n; sign = value-sign x (s .negative) _ _ (n .signed) ∙ shape-sign F o row t s e p }
     shaped row e (refused n i) p q = absurd (refused-done n i x q)
 
     short : (row : Pair) → readingFormat F o ≡ done row → (b : Bool) → cond b (refused 12 0) (andThen (shapeOf (grammarOf F o) t) (valueOf f row (F .«exponent_radix») t)) ≡ done x → NearestToText f F o t x
@@ -135,9 +150,9 @@ answer-nearest f F o t = go (readFloat f F o t) refl
 -- ---- the value, once test 10 is decided
 module _ (f : Format) (row : Pair) (power : ℕ) (t : List ℕ) (s : Shape) where
   abbrev decided : Bool → Answer Float
-  decided b = elim b [ true ↦ refused 10 (exponentPlace t (s .tail)) | false ↦ floatOf f (numerator row power s) (denominator row power s) ]
+  decided b = elim b [ true ↦ refused 10 (exponentPlace t (s .tail)) | false ↦ floatOf f (s .negative) (numerator row power s) (denominator row power s) ]
 
-  pub value-within : magnitude power (s .tail) ≤ greatestExponent → valueOf f row power t s ≡ floatOf f (numerator row power s) (denominator row power s)
+  pub value-within : magnitude power (s .tail) ≤ greatestExponent → valueOf f row power t s ≡ floatOf f (s .negative) (numerator row power s) (denominator row power s)
   unfolding valueOf exponentTooLarge
   value-within h = ap decided (le-ltb greatestExponent (magnitude power (s .tail)) h)
 

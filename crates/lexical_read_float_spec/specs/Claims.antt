@@ -8,12 +8,13 @@ use lib.Ieee.{Float, Format, round}
 use lib.Ieee.Exact.{HasValue}
 use lib.Ieee.Scale.{finite}
 use Rattle.lexical_util.specs.Answer.{Answer, done, refused}
+use Rattle.lexical_float.specs.Sign.{signBit}
 use Rattle.lexical_format.specs.declared.format.Pair.{Pair}
 use Rattle.lexical_format.specs.declared.format.NumberFormat.{NumberFormat}
 use Rattle.lexical_format.specs.declared.options.Options.{Options}
 use Rattle.lexical_format.specs.Format.{readingFormat}
 use Rattle.lexical_read_float_spec.specs.Shape.{Shape, WellFormed, print}
-use Rattle.lexical_read_float_spec.specs.Parse.{shapeOf, WrongAt}
+use Rattle.lexical_read_float_spec.specs.Parse.{beginsWith, shapeOf, WrongAt}
 use Rattle.lexical_read_float_spec.specs.Round.{largest, tooLarge, Nearest}
 use Rattle.lexical_read_float_spec.specs.Read.{grammarOf, magnitude, numerator, denominator, readFloat, longestRead, greatestExponent}
 
@@ -51,13 +52,14 @@ RoundIsNearest = (f : Format) (s : Bool) (a c : ℕ) → 0 < c → tooLarge f a 
 abbrev pub OnlyOneIsNearest : Type 0
 OnlyOneIsNearest = (f : Format) (s : Bool) (a c : ℕ) (x : Float) → 0 < c → tooLarge f a c ≡ false → Nearest f s a c x → x ≡ round f s a c
 
--- the float read is the nearest to the text's value, the even one of two
+-- the float read is the nearest to the text's value, the even one of two; its sign bit is set exactly when the text begins with "-"
 pub record NearestToText (f : Format) (F : NumberFormat) (o : Options) (t : List ℕ) (x : Float) : Type 0 where
   pub row : Pair
   pub shape : Shape
   pub admitted : readingFormat F o ≡ done row
   pub shaped : shapeOf (grammarOf F o) t ≡ done shape
-  pub nearest : Nearest f false (numerator row (F .«exponent_radix») shape) (denominator row (F .«exponent_radix») shape) x
+  pub nearest : Nearest f (shape .negative) (numerator row (F .«exponent_radix») shape) (denominator row (F .«exponent_radix») shape) x
+  pub sign : signBit x ≡ beginsWith 45 t
 
 abbrev pub ReadIsNearest : Type 0
 ReadIsNearest = (f : Format) (F : NumberFormat) (o : Options) (t : List ℕ) (x : Float) → readFloat f F o t ≡ done x → NearestToText f F o t x
@@ -73,7 +75,7 @@ IsServed f F o t answer =
     (row : Pair) (s : Shape) → readingFormat F o ≡ done row → length t ≤ longestRead → WellFormed (grammarOf F o) s → print (grammarOf F o) s ≡ t
     → magnitude (F .«exponent_radix») (s .tail) ≤ greatestExponent
     → tooLarge f (numerator row (F .«exponent_radix») s) (denominator row (F .«exponent_radix») s) ≡ false
-    → answer ≡ done (round f false (numerator row (F .«exponent_radix») s) (denominator row (F .«exponent_radix») s))
+    → answer ≡ done (round f (s .negative) (numerator row (F .«exponent_radix») s) (denominator row (F .«exponent_radix») s))
 
 abbrev pub TextsAreServed : Type 0
 TextsAreServed = (f : Format) (F : NumberFormat) (o : Options) (t : List ℕ) → IsServed f F o t (readFloat f F o t)

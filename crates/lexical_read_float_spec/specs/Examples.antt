@@ -97,6 +97,37 @@ reading =
     ∷ record { name = "mark B, a digit of the radix"; holds = reads binary64 (format 16 2 10) (options 46 66) (bytes "1") (refused 3 0) }
     ∷ []
 
+-- document 02, 2.3: one leading "-", with every place counted from it. The sign bit is set exactly then, at a zero too
+abbrev signBits : ℕ
+signBits = 0x8000000000000000
+
+unfoldable pub signs : List Example
+signs =
+    is "-1" (done (signBits + one))
+    ∷ is "-10.0^-4" (done (signBits + one))
+    ∷ is "-0" (done signBits)
+    ∷ is "-0.0^-5" (done signBits)
+    ∷ is "-1^-1074" (done (signBits + 1))
+    ∷ is "-1^-1075" (done signBits)
+    ∷ is "-1^-32767" (done signBits)
+    ∷ is "-1.00000000000008" (done (signBits + one))
+    ∷ is "-1.00000000000009" (done (signBits + one + 1))
+    ∷ is "-1FFFFFFFFFFFFF.7FFFFFFFFFFFFFFF^971" (done 0xffefffffffffffff)
+    ∷ is "-1FFFFFFFFFFFFF.8^971" (refused 11 0)
+    ∷ is "-" (refused 9 1)
+    ∷ is "--1" (refused 9 1)
+    ∷ is "-+1" (refused 9 1)
+    ∷ is "-x" (refused 9 1)
+    ∷ is "-.5" (refused 9 1)
+    ∷ is "+1" (refused 9 0)
+    ∷ is "1-" (refused 9 1)
+    ∷ is "-1^" (refused 9 3)
+    ∷ is "-0^-32768" (refused 10 4)
+    ∷ record { name = "32-bit -0"; holds = reads binary32 (format 16 2 10) (options 46 94) (bytes "-0") (done 0x80000000) }
+    ∷ record { name = "32-bit -2^-150"; holds = reads binary32 (format 16 2 10) (options 46 94) (bytes "-1^-150") (done 0x80000000) }
+    ∷ record { name = "32-bit -largest"; holds = reads binary32 (format 16 2 10) (options 46 94) (bytes "-F.FFFFF7^124") (done 0xff7fffff) }
+    ∷ []
+
 -- long texts: a settling digit far behind, an exponent that undoes the fraction, and the limit of 4,096 bytes
 abbrev read : String → List ℕ → Answer ℕ → Example
 read name t wanted = record { name = name; holds = reads binary64 (format 16 2 10) (options 46 94) t wanted }
@@ -106,6 +137,8 @@ long =
     read "4,000 zeros undone by the exponent" (bytes "0." ++ (replicate 4000 48 ++ bytes "1^16004")) (done one)
     ∷ read "a byte too long" (replicate (longestRead + 1) 48) (refused 12 0)
     ∷ read "the longest that is read" (replicate longestRead 48) (done 0)
+    ∷ read "a byte too long with its sign" (45 ∷ replicate longestRead 48) (refused 12 0)
+    ∷ read "the longest with its sign" (45 ∷ replicate (longestRead - 1) 48) (done signBits)
     ∷ read "below the edge by the last of 4,091 digits" (bytes "1FFFFFFFFFFFFF.7" ++ (replicate 4075 70 ++ bytes "F^971")) (done 0x7fefffffffffffff)
     ∷ read "the edge in 4,091 digits" (bytes "1FFFFFFFFFFFFF.8" ++ (replicate 4075 48 ++ bytes "0^971")) (refused 11 0)
     ∷ read "a tie settled behind 4,000 zeros" (bytes "1.00000000000008" ++ (replicate 4000 48 ++ bytes "1")) (done (one + 1))

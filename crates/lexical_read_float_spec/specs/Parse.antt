@@ -1,12 +1,13 @@
--- The shape that a text has, or the place of refusal 9: document 01, "Reader" and "Read a float". Definitions only.
+-- The shape that a text has, or the place of refusal 9: document 01, "Reader" and "Read a float", with the sign of document 02, 2.3. Definitions only.
 use Prim.Native.Nat.{ℕ, _+_, _-_, _≤_, _<_}
 use mathlib.Core.Bool.{Bool, true, false, cond}
 use mathlib.Core.List.{List, [], _∷_}
 use mathlib.Core.Option.{Option, none, some}
 use lib.Dec.{eqb}
-use lib.ListN.{length, take}
+use lib.ListN.{length, take, drop}
 use Rattle.lexical_util.specs.Answer.{Answer, done, refused}
 use Rattle.lexical_util.specs.Digit.{digitIn}
+use Rattle.lexical_float.specs.Sign.{minusSign}
 use Rattle.lexical_read_float_spec.specs.Shape.{Grammar, Sign, unsigned, plus, minus, Tail, absent, exponent, Shape, WellShaped, Begins}
 
 -- the digits of a radix in front of a text, and what is left of it
@@ -53,8 +54,9 @@ unfoldable pub parseTail : Grammar → List ℕ → Parsed Tail
 parseTail G [] = found absent
 parseTail G (x ∷ xs) = cond (eqb x (G .mark)) (signedExponent (G .exponentRadix) xs) (stuck (x ∷ xs))
 
+-- no sign is told yet
 abbrev pub withTail : List ℕ → Bool → List ℕ → Tail → Shape
-withTail whole dot fraction tail = record { whole = whole; dot = dot; fraction = fraction; tail = tail }
+withTail whole dot fraction tail = record { negative = false; whole = whole; dot = dot; fraction = fraction; tail = tail }
 
 -- point and any digits
 abbrev pub afterPoint : Grammar → List ℕ → Run → Parsed Shape
@@ -71,8 +73,21 @@ abbrev pub oneOrMore : Grammar → List ℕ → List ℕ → Parsed Shape
 oneOrMore G [] left = stuck left
 oneOrMore G (d ∷ ds) left = afterWhole G (d ∷ ds) left
 
+unfoldable pub parseUnsigned : Grammar → List ℕ → Parsed Shape
+parseUnsigned G t = oneOrMore G (run (G .radix) t .got) (run (G .radix) t .left)
+
+-- whether a text begins with a byte
+abbrev pub beginsWith : ℕ → List ℕ → Bool
+beginsWith byte [] = false
+beginsWith byte (x ∷ xs) = eqb x byte
+
+-- the same shape, with its sign told
+abbrev pub withSign : Bool → Shape → Shape
+withSign negative s = record { negative = negative; whole = s .whole; dot = s .dot; fraction = s .fraction; tail = s .tail }
+
+-- optionally one leading "-", then what would be the text
 unfoldable pub parse : Grammar → List ℕ → Parsed Shape
-parse G t = oneOrMore G (run (G .radix) t .got) (run (G .radix) t .left)
+parse G t = let negative = beginsWith 45 t in mapParsed (withSign negative) (parseUnsigned G (drop (length (minusSign negative)) t))
 
 -- 9 wrong shape, place the first byte no text could have there, or the length if it ends early
 abbrev pub ofParsed : List ℕ → Parsed Shape → Answer Shape

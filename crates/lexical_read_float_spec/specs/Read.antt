@@ -1,4 +1,4 @@
--- What a call to read a float answers: document 01, "Reader" and "Read a float". Both widths by the format. Definitions only.
+-- What a call to read a float answers: document 01, "Reader" and "Read a float", with the sign of document 02, 2.3. Both widths by the format. Definitions only.
 use Prim.Native.Nat.{ℕ, _-_, _*_, _^_}
 use mathlib.Core.Bool.{Bool, true, false, cond}
 use mathlib.Core.List.{List, [], _∷_, _++_}
@@ -29,7 +29,7 @@ hasMinus (exponent unsigned ds) = false
 hasMinus (exponent plus ds) = false
 hasMinus (exponent minus ds) = true
 
--- It is the fraction numerator / denominator. The radix is 2 ^ b, so each digit behind the point divides by 2 ^ b; the base is 2 ^ c.
+-- Its size is the fraction numerator / denominator. The radix is 2 ^ b, so each digit behind the point divides by 2 ^ b; the base is 2 ^ c.
 module _ (row : Pair) (exponentRadix : ℕ) (s : Shape) where
   abbrev pub basePower : ℕ
   basePower = 2 ^ (row .c * magnitude exponentRadix (s .tail))
@@ -41,9 +41,9 @@ module _ (row : Pair) (exponentRadix : ℕ) (s : Shape) where
   denominator = 2 ^ (row .b * length (s .fraction)) * cond (hasMinus (s .tail)) basePower 1
 
 -- ---- the answer
--- 11 too large; else the nearest float, ties to even, small values to denormals or zero
-unfoldable pub floatOf : Format → ℕ → ℕ → Answer Float
-floatOf f num den = checked ((11, tooLarge f num den) ∷ []) (done (round f false num den))
+-- 11 too large, of the magnitude; else the nearest float, ties to even, small values to denormals or zero. It has the sign s, minus zero too
+unfoldable pub floatOf : Format → Bool → ℕ → ℕ → Answer Float
+floatOf f s num den = checked ((11, tooLarge f num den) ∷ []) (done (round f s num den))
 
 -- 10 exponent magnitude above 32,767
 abbrev pub greatestExponent : ℕ
@@ -62,7 +62,7 @@ unfoldable pub valueOf : Format → Pair → ℕ → List ℕ → Shape → Answ
 valueOf f row exponentRadix t s =
     elim (exponentTooLarge exponentRadix (s .tail)) [
       | true ↦ refused 10 (exponentPlace t (s .tail))
-      | false ↦ floatOf f (numerator row exponentRadix s) (denominator row exponentRadix s)
+      | false ↦ floatOf f (s .negative) (numerator row exponentRadix s) (denominator row exponentRadix s)
     ]
 
 -- 12 text above 4,096 bytes

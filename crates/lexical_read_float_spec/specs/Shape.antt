@@ -1,9 +1,10 @@
--- The shape of a text, and the text of a shape: document 01, "Reader". Definitions only.
+-- The shape of a text, and the text of a shape: document 01, "Reader", with the sign of document 02, 2.3. Definitions only.
 use Prim.Native.Nat.{ℕ}
 use mathlib.Core.Path.{_≡_}
 use mathlib.Core.Bool.{Bool, true, false}
 use mathlib.Core.List.{List, [], _∷_, _++_, map}
 use Rattle.lexical_util.specs.Digit.{digitByte, AreDigits}
+use Rattle.lexical_float.specs.Sign.{minusSign}
 
 -- what a text is read by: the radix of its digits, the exponent radix, the point and the mark
 pub record Grammar : Type 0 where
@@ -21,8 +22,9 @@ pub data Tail : Type 0 where
   absent : Tail
   exponent : Sign → List ℕ → Tail
 
--- digits; optionally point and digits, `dot` says whether; optionally an exponent
+-- optionally one leading "-", `negative` says whether; digits; optionally point and digits, `dot` says whether; optionally an exponent
 pub record Shape : Type 0 where
+  pub negative : Bool
   pub whole : List ℕ
   pub dot : Bool
   pub fraction : List ℕ
@@ -43,7 +45,7 @@ fractionBytes G true ds = G .point ∷ map digitByte ds
 fractionBytes G false ds = []
 
 unfoldable pub print : Grammar → Shape → List ℕ
-print G s = map digitByte (s .whole) ++ (fractionBytes G (s .dot) (s .fraction) ++ tailBytes G (s .tail))
+print G s = minusSign (s .negative) ++ (map digitByte (s .whole) ++ (fractionBytes G (s .dot) (s .fraction) ++ tailBytes G (s .tail)))
 
 -- ---- which shapes a text may have
 -- one or more

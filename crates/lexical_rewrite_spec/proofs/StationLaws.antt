@@ -10,17 +10,13 @@ use borrow.Author.Tests.{le-leb, leb-true}
 use lib.Dec.{T, leb}
 use lib.ListN.{length, take, drop}
 use lib.Seq.{take-append-seam}
-use lib.Ieee.{Float, nan, inf, fin, Format, fits}
-use lib.Ieee.Exact.{HasValue}
+use lib.Ieee.{Float, Format, fits}
 use lib.Ieee.Positive.{num, den}
 use Rattle.lexical_util.specs.Answer.{Answer, done, refused, andThen, written, held}
 use Rattle.lexical_util.proofs.AnswerLaws.{text-fits}
-use Rattle.lexical_format.specs.declared.format.Pair.{Pair}
-use Rattle.lexical_format.specs.declared.format.NumberFormat.{NumberFormat}
-use Rattle.lexical_format.specs.declared.options.Options.{Options}
-use Rattle.lexical_format.specs.Format.{writingFormat}
-use Rattle.lexical_write_float_spec.specs.Write.{limitedText, floatText, writeText, longestText}
-use Rattle.lexical_write_float_spec.proofs.WriteLaws.{longest-text}
+use Rattle.lexical_float.proofs.FloatLaws.{own-fraction}
+use Rattle.lexical_write_float_spec.specs.Write.{longestText}
+use Rattle.lexical_write_float_spec.proofs.WriteLaws.{finite-text, longest-text}
 use Rattle.lexical_read_float_spec.proofs.ReadLaws.{read-is-nearest}
 use Rattle.lexical_rewrite_spec.specs.declared.text_format.TextFormat.{TextFormat}
 use Rattle.lexical_rewrite_spec.specs.Claims.{Denotes}
@@ -37,18 +33,10 @@ pub record Has (f : Format) (G : TextFormat) (x : Float) : Type 0 where
   pub back : readIn f G text ≡ done x
   pub exact : Denotes (G .format) (G .options) text x
 
--- a finite float with the sign bit clear is not refused by an admitted format
-finite-text : (F : NumberFormat) (o : Options) (row : Pair) (x : Float) (a c : ℕ) → writingFormat F o ≡ done row → HasValue x false a c → (t : List ℕ) × (writeText F o x ≡ done t)
-unfolding writeText floatText
-finite-text F o row nan a c w h = absurd h
-finite-text F o row (inf s) a c w h = absurd h
-finite-text F o row (fin true m e) a c w h = absurd (let z : _≡_ {A = ℕ} 0 1 = cc in omega arith)
-finite-text F o row (fin false m e) a c w h = (limitedText F o row m e, ap (λ (z : Answer Pair). andThen z (floatText F o (fin false m e))) w)
-
 pub has-text : (f : Format) (F : TextFormat) (t : List ℕ) (G : TextFormat) (x : Float) → IsFloatOf f F t x → Admits G → Has f G x
 has-text f F t G x read A =
     let near = read-is-nearest f (F .format) (F .options) t x read .nearest in
-    let found = finite-text (G .format) (G .options) (A .row) x (num x) (den x) (A .passes) (near .signed) in
+    let found = finite-text (G .format) (G .options) (A .row) x (A .passes) (own-fraction x _ (num x) (den x) (near .signed) .is-finite) in
     record {
       text = found .0;
       is-text = found .1;

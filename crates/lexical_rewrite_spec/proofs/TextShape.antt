@@ -1,4 +1,4 @@
--- Every text that is written is the text of a shape, which the format's grammar has. Assumes nothing.
+-- Every magnitude's text that is written is the text of a shape without a sign, which the format's grammar has. Assumes nothing.
 use Prim.Native.Nat.{ℕ, zero, suc, _+_, _-_, _*_, _/_, _^_, max}
 use mathlib.Core.Path.{_≡_, refl, sym, ap, _∙_}
 use mathlib.Core.Bool.{Bool, true, false, not, cond, _&&_}
@@ -17,9 +17,10 @@ use Rattle.lexical_write_float_spec.specs.declared.layout.Layout.{Layout}
 use Rattle.lexical_write_float_spec.specs.declared.layout.Layout.the-variants.{Scientific, Negative, Positive}
 use Rattle.lexical_write_float_spec.specs.Value.{exactDigits}
 use Rattle.lexical_write_float_spec.specs.Text.{zeros, point, least, trim, layoutOf, scientific, exponentSign, exponentText, negative, positive, laidOut, digitsSoFar, text}
-use Rattle.lexical_read_float_spec.specs.Shape.{Grammar, Sign, unsigned, plus, minus, Tail, absent, exponent, Shape, signBytes, tailBytes, print}
+use Rattle.lexical_read_float_spec.specs.Shape.{Grammar, Sign, unsigned, plus, minus, Tail, absent, exponent, Shape, signBytes, tailBytes}
 use Rattle.lexical_read_float_spec.specs.Parse.{withTail}
 use Rattle.lexical_read_float_spec.specs.Read.{grammarOf}
+use Rattle.lexical_read_float_spec.proofs.ParseLaws.{unsignedBytes}
 
 -- ---- bytes of digits
 take-map : (n : ℕ) (ds : List ℕ) → take n (map digitByte ds) ≡ map digitByte (take n ds)
@@ -92,33 +93,33 @@ module _ (F : NumberFormat) (o : Options) (row : Pair) where
     count : length (map digitByte ds) ≡ length ds
     count = length-map ds digitByte
 
-    print-scientific : (τ : Tail) → print G (scientificShape τ) ≡ scientific F o (map digitByte ds) ++ tailBytes G τ
-    unfolding print scientific scientificShape
+    print-scientific : (τ : Tail) → unsignedBytes G (scientificShape τ) ≡ scientific F o (map digitByte ds) ++ tailBytes G τ
+    unfolding scientific scientificShape
     print-scientific τ = rw (count, take-map 1 ds, drop-map 1 ds) (go (ltb 1 (length ds)) (trim F o && not (F .«no_exponent_without_fraction»)))
       where
-        go : (a b : Bool) → print G (cond a (withTail (take 1 ds) true (drop 1 ds ++ pad) τ) (cond b (withTail (take 1 ds) false [] τ) (withTail (take 1 ds) true (noughts (max 1 (least F o - 1))) τ)))
+        go : (a b : Bool) → unsignedBytes G (cond a (withTail (take 1 ds) true (drop 1 ds ++ pad) τ) (cond b (withTail (take 1 ds) false [] τ) (withTail (take 1 ds) true (noughts (max 1 (least F o - 1))) τ)))
             ≡ (map digitByte (take 1 ds) ++ cond a (point F o ∷ (map digitByte (drop 1 ds) ++ zeros (least F o - length ds))) (cond b [] (point F o ∷ zeros (max 1 (least F o - 1))))) ++ tailBytes G τ
         go true b = rw (zeros-map (least F o - length ds), ← map-append digitByte (drop 1 ds) pad, append-assoc)
         go false true = rw append-assoc
         go false false = rw (zeros-map (max 1 (least F o - 1)), append-assoc)
 
-    print-negative : (p : ℤ) → print G (negativeShape p) ≡ negative F o (map digitByte ds) p
-    unfolding print negative negativeShape digitByte
+    print-negative : (p : ℤ) → unsignedBytes G (negativeShape p) ≡ negative F o (map digitByte ds) p
+    unfolding negative negativeShape digitByte
     print-negative p =
         rw (count, zeros-map (natAbs p - 1), zeros-map (least F o - length ds), ← map-append digitByte ds pad, ← map-append digitByte (noughts (natAbs p - 1)) (ds ++ pad))
         (ap (λ (l : List ℕ). 48 ∷ (point F o ∷ l)) (append-nil (map digitByte (noughts (natAbs p - 1) ++ (ds ++ pad)))))
 
-    print-positive : (places soFar : ℕ) → print G (positiveShape places soFar) ≡ positive F o (map digitByte ds) places soFar
-    unfolding print positive positiveShape digitByte
+    print-positive : (places soFar : ℕ) → unsignedBytes G (positiveShape places soFar) ≡ positive F o (map digitByte ds) places soFar
+    unfolding positive positiveShape digitByte
     print-positive places soFar = rw (count, take-map places ds, drop-map places ds) (go (ltb places (length ds)) (trim F o))
       where
-        go : (a b : Bool) → print G (cond a (withTail (take places ds) true (drop places ds ++ pad) absent) (cond b (withTail (ds ++ noughts (places - length ds)) false [] absent) (withTail (ds ++ noughts (places - length ds)) true (0 ∷ noughts (least F o - soFar)) absent)))
+        go : (a b : Bool) → unsignedBytes G (cond a (withTail (take places ds) true (drop places ds ++ pad) absent) (cond b (withTail (ds ++ noughts (places - length ds)) false [] absent) (withTail (ds ++ noughts (places - length ds)) true (0 ∷ noughts (least F o - soFar)) absent)))
             ≡ cond a (map digitByte (take places ds) ++ (point F o ∷ (map digitByte (drop places ds) ++ zeros (least F o - length ds)))) (map digitByte ds ++ (zeros (places - length ds) ++ cond b [] (point F o ∷ (48 ∷ zeros (least F o - soFar)))))
         go true b = rw (zeros-map (least F o - length ds), ← map-append digitByte (drop places ds) pad, append-nil)
         go false true = rw (zeros-map (places - length ds), map-append digitByte ds (noughts (places - length ds)), append-nil, append-nil)
         go false false = rw (zeros-map (places - length ds), zeros-map (least F o - soFar), map-append digitByte ds (noughts (places - length ds)), append-assoc, append-nil)
 
-    print-in : (p : ℤ) (soFar : ℕ) (l : Layout) → print G (shapeIn p soFar l) ≡ laidOut F o row (map digitByte ds) p soFar l
+    print-in : (p : ℤ) (soFar : ℕ) (l : Layout) → unsignedBytes G (shapeIn p soFar l) ≡ laidOut F o row (map digitByte ds) p soFar l
     print-in p soFar Scientific = print-scientific (tailOf p) ∙ ap (λ (t : List ℕ). scientific F o (map digitByte ds) ++ t) (tail-bytes p)
     print-in p soFar Negative = print-negative p
     print-in p soFar Positive = print-positive (natAbs p + 1) soFar
@@ -130,7 +131,7 @@ module _ (F : NumberFormat) (o : Options) (row : Pair) where
   unfoldable pub shapeOfText : ℕ → ℤ → Shape
   shapeOfText m e = shapeIn (digitsIn m e) (place (row .b) (scale m e)) (digitsSoFar F o m (exactDigits (row .b) m e)) (layoutOf F o (scale m e))
 
-  pub print-text : (m : ℕ) (e : ℤ) → print G (shapeOfText m e) ≡ text F o row m e
+  pub print-text : (m : ℕ) (e : ℤ) → unsignedBytes G (shapeOfText m e) ≡ text F o row m e
   unfolding shapeOfText text exactDigits
   print-text m e =
       let p = place (row .b) (scale m e) in

@@ -11,7 +11,7 @@ use Rattle.lexical_write_float_spec.specs.Value.{normal, exactDigits}
 use Rattle.lexical_write_float_spec.specs.Limit.{multipleOf, limited}
 use Rattle.lexical_write_float_spec.specs.Text.{isScientific, layoutOf, scientific, exponentText, negative, positive, text}
 use Rattle.lexical_write_float_spec.specs.Write.{limitedText, floatText, writeText}
-use Rattle.lexical_read_float_spec.specs.Parse.{run, signedExponent, parseTail, afterWhole, parse, shapeOf}
+use Rattle.lexical_read_float_spec.specs.Parse.{run, signedExponent, parseTail, afterWhole, parseUnsigned, parse, shapeOf}
 use Rattle.lexical_read_float_spec.specs.Round.{tooLarge}
 use Rattle.lexical_read_float_spec.specs.Read.{numerator, denominator, floatOf, exponentTooLarge, exponentPlace, valueOf, readText, readFloat}
 use Rattle.lexical_rewrite_spec.specs.Chain.{chainFrom}
@@ -19,7 +19,7 @@ use Rattle.lexical_rewrite_spec.specs.Record.{numberFormatOfRecord, opti
 use Rattle.lexical_rewrite_spec.specs.Examples.{chains, records}
 
 pub chains-hold : failing chains ≡ []
-unfolding failing chains chainFrom formatsOf recordsOf numberFormatOfRecord optionsOfRecord readFloat readText valueOf exponentTooLarge exponentPlace floatOf numerator denominator tooLarge shapeOf parse afterWhole parseTail signedExponent run readingFormat readOn writeText floatText limitedText text positive negative exponentText scientific layoutOf isScientific limited multipleOf exactDigits normal writingFormat badBreaks badCounts badBytes badByte pairOf findPair pairs numeral widened digits digitsUpTo isWidth isRadix isDigit digitIn digitValue digitByte round units odd size span climb trailingZeros
+unfolding failing chains chainFrom formatsOf recordsOf numberFormatOfRecord optionsOfRecord readFloat readText valueOf exponentTooLarge exponentPlace floatOf numerator denominator tooLarge shapeOf parse parseUnsigned afterWhole parseTail signedExponent run readingFormat readOn writeText floatText limitedText text positive negative exponentText scientific layoutOf isScientific limited multipleOf exactDigits normal writingFormat badBreaks badCounts badBytes badByte pairOf findPair pairs numeral widened digits digitsUpTo isWidth isRadix isDigit digitIn digitValue digitByte round units odd size span climb trailingZeros
 chains-hold = refl
 
 pub records-hold : failing records ≡ []

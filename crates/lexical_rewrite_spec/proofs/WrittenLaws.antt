@@ -16,6 +16,7 @@ use Rattle.lexical_exponent.specs.Exponent.{scale, place, power}
 use Rattle.lexical_util.proofs.AnswerLaws.{refused-done, done-same}
 use Rattle.lexical_util.proofs.RadixLaws.{radix-bounds}
 use Rattle.lexical_write_integer_spec.proofs.NumeralLaws.{widened-value}
+use Rattle.lexical_float.specs.Sign.{minusSign}
 use Rattle.lexical_format.specs.declared.format.Pair.{Pair}
 use Rattle.lexical_format.specs.declared.format.NumberFormat.{NumberFormat}
 use Rattle.lexical_format.specs.declared.options.Options.{Options}
@@ -30,10 +31,11 @@ use Rattle.lexical_write_float_spec.specs.Write.{limitedText, floatText, writeT
 use Rattle.lexical_write_float_spec.specs.Range.{Ranged}
 use Rattle.lexical_write_float_spec.proofs.RangeLaws.{fits-ranged, place-near}
 use Rattle.lexical_write_float_spec.proofs.WriteLaws.{longest-text}
-use Rattle.lexical_read_float_spec.specs.Shape.{Tail, absent, Shape}
-use Rattle.lexical_read_float_spec.specs.Parse.{withTail, shapeOf}
+use Rattle.lexical_read_float_spec.specs.Shape.{Tail, absent, Shape, print, WellFormed}
+use Rattle.lexical_read_float_spec.specs.Parse.{withTail, withSign, shapeOf}
 use Rattle.lexical_read_float_spec.specs.Read.{grammarOf, magnitude, numerator, denominator, floatOf, exponentTooLarge, exponentPlace, valueOf, readText, readFloat, longestRead, greatestExponent}
 use Rattle.lexical_read_float_spec.proofs.Edge.{not-too-large}
+use Rattle.lexical_read_float_spec.proofs.ParseLaws.{formed-signed}
 use Rattle.lexical_read_float_spec.proofs.ReadLaws.{printed-is-read, denominator-pos}
 use Rattle.lexical_float.proofs.FloatLaws.{round-of-value}
 use Rattle.lexical_rewrite_spec.specs.Claims.{ReadAsShape, WrittenIsShaped, Denotes, WrittenIsExact, WrittenIsReadBack}
@@ -42,18 +44,28 @@ use Rattle.lexical_rewrite_spec.proofs.WellFormedText.{formed-text}
 use Rattle.lexical_rewrite_spec.proofs.TextValue.{text-value}
 
 -- ---- the shape
-module _ (F : NumberFormat) (o : Options) (row : Pair) (w : writingFormat F o ≡ done row) (m : ℕ) (e : ℤ) where
+module _ (F : NumberFormat) (o : Options) (row : Pair) (w : writingFormat F o ≡ done row) (s : Bool) (m : ℕ) (e : ℤ) where
   reads : readingFormat F o ≡ done row
   reads = writable-reads F o row w
 
-  text-found : shapeOf (grammarOf F o) (text F o row m e) ≡ done (shapeOfText F o row m e)
-  text-found = ap (shapeOf (grammarOf F o)) (sym (print-text F o row m e)) ∙ printed-is-read F o row (shapeOfText F o row m e) reads (formed-text F o row (readable F o row reads) m e)
+  abbrev signedShape : Shape
+  signedShape = withSign s (shapeOfText F o row m e)
 
-  text-shaped : ReadAsShape F o (text F o row m e)
-  text-shaped = record { shape = shapeOfText F o row m e; formed = formed-text F o row (readable F o row reads) m e; printed = print-text F o row m e; found = text-found }
+  formed : WellFormed (grammarOf F o) signedShape
+  formed = formed-signed (grammarOf F o) s (shapeOfText F o row m e) (formed-text F o row (readable F o row reads) m e)
 
--- what was written, under an admitted format, of a finite float with the sign clear
-by-float : (F : NumberFormat) (o : Options) (P : List ℕ → Float → Type 0) → ((row : Pair) → writingFormat F o ≡ done row → (m : ℕ) (e : ℤ) → P (limitedText F o row m e) (fin false m e))
+  prints : print (grammarOf F o) signedShape ≡ minusSign s ++ text F o row m e
+  unfolding print
+  prints = ap (λ (t : List ℕ). minusSign s ++ t) (print-text F o row m e)
+
+  text-found : shapeOf (grammarOf F o) (minusSign s ++ text F o row m e) ≡ done signedShape
+  text-found = ap (shapeOf (grammarOf F o)) (sym prints) ∙ printed-is-read F o row signedShape reads formed
+
+  text-shaped : ReadAsShape F o (minusSign s ++ text F o row m e)
+  text-shaped = record { shape = signedShape; formed = formed; printed = prints; found = text-found }
+
+-- what was written, under an admitted format, of a finite float
+by-float : (F : NumberFormat) (o : Options) (P : List ℕ → Float → Type 0) → ((row : Pair) → writingFormat F o ≡ done row → (s : Bool) (m : ℕ) (e : ℤ) → P (minusSign s ++ limitedText F o row m e) (fin s m e))
     → (x : Float) (t : List ℕ) → writeText F o x ≡ done t → P t x
 unfolding writeText floatText
 by-float F o P step x t e = go (writingFormat F o) refl x e
@@ -62,28 +74,33 @@ by-float F o P step x t e = go (writingFormat F o) refl x e
     go (refused n p) w x e = absurd (refused-done n p t e)
     go (done row) w nan e = absurd (refused-done 7 0 t e)
     go (done row) w (inf s) e = absurd (refused-done 7 0 t e)
-    go (done row) w (fin true m d) e = absurd (refused-done 7 0 t e)
-    go (done row) w (fin false m d) e = subst (λ (l : List ℕ). P l (fin false m d)) (done-same (limitedText F o row m d) t e) (step row w m d)
+    go (done row) w (fin s m d) e = subst (λ (l : List ℕ). P l (fin s m d)) (done-same (minusSign s ++ limitedText F o row m d) t e) (step row w s m d)
 
 pub written-is-shaped : WrittenIsShaped
-written-is-shaped F o x t e = by-float F o (λ l y. ReadAsShape F o l) (λ row w m d. unfold limitedText in text-shaped F o row w _ _) x t e
+written-is-shaped F o x t e = by-float F o (λ l y. ReadAsShape F o l) (λ row w s m d. unfold limitedText in text-shaped F o row w s _ _) x t e
 
 -- ---- the value, without a limit
 unlimited : (F : NumberFormat) (o : Options) (row : Pair) (m : ℕ) (e : ℤ) → o .«max_significant_digits» ≡ 0 → limitedText F o row m e ≡ text F o row m e
 unfolding limitedText limited
 unlimited F o row m e h = rw h
 
+-- the sign has no part in a shape's size
+signed-value : (F : NumberFormat) (o : Options) (row : Pair) (w : writingFormat F o ≡ done row) (s : Bool) (m : ℕ) (e : ℤ)
+    → HasValue (fin s m e) s (numerator row (F .«exponent_radix») (signedShape F o row w s m e)) (denominator row (F .«exponent_radix») (signedShape F o row w s m e))
+unfolding numerator denominator
+signed-value F o row w s m e = (refl, text-value F o row (readable F o row (reads F o row w s m e)) m e)
+
 pub written-is-exact : WrittenIsExact
 written-is-exact F o x t none e = by-float F o (λ l y. Denotes F o l y) step x t e
   where
-    step : (row : Pair) → writingFormat F o ≡ done row → (m : ℕ) (e : ℤ) → Denotes F o (limitedText F o row m e) (fin false m e)
-    step row w m e =
+    step : (row : Pair) → writingFormat F o ≡ done row → (s : Bool) (m : ℕ) (e : ℤ) → Denotes F o (minusSign s ++ limitedText F o row m e) (fin s m e)
+    step row w s m e =
         record {
           row = row;
-          shape = shapeOfText F o row m e;
-          admitted = reads F o row w m e;
-          shaped = ap (shapeOf (grammarOf F o)) (unlimited F o row m e none) ∙ text-found F o row w m e;
-          value = (refl, text-value F o row (readable F o row (reads F o row w m e)) m e);
+          shape = signedShape F o row w s m e;
+          admitted = reads F o row w s m e;
+          shaped = ap (λ (t : List ℕ). shapeOf (grammarOf F o) (minusSign s ++ t)) (unlimited F o row m e none) ∙ text-found F o row w s m e;
+          value = signed-value F o row w s m e;
         }
 
 -- ---- the exponent is never too large
@@ -120,27 +137,28 @@ module _ (F : NumberFormat) (o : Options) (row : Pair) (R : Readable F o row) wh
       (tail-in (digitsIn F o row m e) (place (row .b) (scale m e)) (digitsSoFar F o m (exactDigits (row .b) m e)) (layoutOf F o (scale m e)) (place-near (row .b) (scale m e) (r .near)))
 
 -- ---- read back
-float-done : (f : Format) (x : Float) (a c : ℕ) → 0 < c → T (fits f x) → HasValue x false a c → floatOf f a c ≡ done x
+float-done : (f : Format) (s : Bool) (x : Float) (a c : ℕ) → 0 < c → T (fits f x) → HasValue x s a c → floatOf f s a c ≡ done x
 unfolding floatOf
-float-done f x a c C h v = rw (not-too-large f x false a c C h v, round-of-value f false x a c C h v)
+float-done f s x a c C h v = rw (not-too-large f x s a c C h v, round-of-value f s x a c C h v)
 
-value-done : (f : Format) (row : Pair) (E : ℕ) (t : List ℕ) (s : Shape) (x : Float) → exponentTooLarge E (s .tail) ≡ false → T (fits f x) → HasValue x false (numerator row E s) (denominator row E s) → valueOf f row E t s ≡ done x
+value-done : (f : Format) (row : Pair) (E : ℕ) (t : List ℕ) (s : Shape) (x : Float) → exponentTooLarge E (s .tail) ≡ false → T (fits f x) → HasValue x (s .negative) (numerator row E s) (denominator row E s) → valueOf f row E t s ≡ done x
 unfolding valueOf
 value-done f row E t s x small h v = go (exponentTooLarge E (s .tail)) small
   where
-    go : (b : Bool) → b ≡ false → elim b [ true ↦ refused 10 (exponentPlace t (s .tail)) | false ↦ floatOf f (numerator row E s) (denominator row E s) ] ≡ done x
+    go : (b : Bool) → b ≡ false → elim b [ true ↦ refused 10 (exponentPlace t (s .tail)) | false ↦ floatOf f (s .negative) (numerator row E s) (denominator row E s) ] ≡ done x
     go true e = absurd (let z : _≡_ {A = ℕ} 0 1 = cc in omega arith)
-    go false e = float-done f x (numerator row E s) (denominator row E s) (denominator-pos row E s) h v
+    go false e = float-done f (s .negative) x (numerator row E s) (denominator row E s) (denominator-pos row E s) h v
 
-text-read : (f : Format) (F : NumberFormat) (o : Options) (row : Pair) → writingFormat F o ≡ done row → (m : ℕ) (e : ℤ) → T (fits f (fin false m e)) → length (text F o row m e) ≤ longestText → readFloat f F o (text F o row m e) ≡ done (fin false m e)
+text-read : (f : Format) (F : NumberFormat) (o : Options) (row : Pair) → writingFormat F o ≡ done row → (s : Bool) (m : ℕ) (e : ℤ) → T (fits f (fin s m e)) → length (minusSign s ++ text F o row m e) ≤ longestText
+    → readFloat f F o (minusSign s ++ text F o row m e) ≡ done (fin s m e)
 unfolding readFloat readText
-text-read f F o row w m e h l =
-    let R = readable F o row (reads F o row w m e) in
-    rw (reads F o row w m e, le-ltb longestRead (length (text F o row m e)) (omega arith), text-found F o row w m e)
-    (value-done f row (F .«exponent_radix») (text F o row m e) (shapeOfText F o row m e) (fin false m e) (text-small F o row R m e (fits-ranged f m e h)) h (refl, text-value F o row R m e))
+text-read f F o row w s m e h l =
+    let R = readable F o row (reads F o row w s m e) in
+    rw (reads F o row w s m e, le-ltb longestRead (length (minusSign s ++ text F o row m e)) (omega arith), text-found F o row w s m e)
+    (value-done f row (F .«exponent_radix») (minusSign s ++ text F o row m e) (signedShape F o row w s m e) (fin s m e) (text-small F o row R m e (fits-ranged f s m e h)) h (signed-value F o row w s m e))
 
 pub written-is-read-back : WrittenIsReadBack
 written-is-read-back f F o x t h none e = by-float F o (λ l y. T (fits f y) → length l ≤ longestText → readFloat f F o l ≡ done y) step x t e h (longest-text f F o x t h e)
   where
-    step : (row : Pair) → writingFormat F o ≡ done row → (m : ℕ) (e : ℤ) → T (fits f (fin false m e)) → length (limitedText F o row m e) ≤ longestText → readFloat f F o (limitedText F o row m e) ≡ done (fin false m e)
-    step row w m e h l = rw (unlimited F o row m e none) (text-read f F o row w m e h (rw (unlimited F o row m e none) at l))
+    step : (row : Pair) → writingFormat F o ≡ done row → (s : Bool) (m : ℕ) (e : ℤ) → T (fits f (fin s m e)) → length (minusSign s ++ limitedText F o row m e) ≤ longestText → readFloat f F o (minusSign s ++ limitedText F o row m e) ≡ done (fin s m e)
+    step row w s m e h l = rw (unlimited F o row m e none) (text-read f F o row w s m e h (rw (unlimited F o row m e none) at l))

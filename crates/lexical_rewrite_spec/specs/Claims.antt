@@ -1,7 +1,6 @@
 -- What the laws of writing and reading together say. Statements only; `WrittenLaws` proves them.
 use Prim.Native.Nat.{ℕ}
 use mathlib.Core.Path.{_≡_}
-use mathlib.Core.Bool.{false}
 use mathlib.Core.List.{List}
 use lib.Dec.{T}
 use lib.Ieee.{Float, Format, fits}
@@ -27,13 +26,13 @@ pub record ReadAsShape (F : NumberFormat) (o : Options) (t : List ℕ) : Type 0 
 abbrev pub WrittenIsShaped : Type 0
 WrittenIsShaped = (F : NumberFormat) (o : Options) (x : Float) (t : List ℕ) → writeText F o x ≡ done t → ReadAsShape F o t
 
--- t denotes exactly the value of x
+-- t denotes exactly the value of x, with its sign
 pub record Denotes (F : NumberFormat) (o : Options) (t : List ℕ) (x : Float) : Type 0 where
   pub row : Pair
   pub shape : Shape
   pub admitted : readingFormat F o ≡ done row
   pub shaped : shapeOf (grammarOf F o) t ≡ done shape
-  pub value : HasValue x false (numerator row (F .«exponent_radix») shape) (denominator row (F .«exponent_radix») shape)
+  pub value : HasValue x (shape .negative) (numerator row (F .«exponent_radix») shape) (denominator row (F .«exponent_radix») shape)
 
 -- without a digit limit, the text of a float denotes exactly its value
 abbrev pub WrittenIsExact : Type 0

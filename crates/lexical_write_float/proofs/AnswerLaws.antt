@@ -2,7 +2,7 @@
 use Prim.Native.Nat.{ℕ, suc, _/_, _≤_}
 use mathlib.Core.Path.{_≡_, refl, sym, ap, _∙_, subst}
 use mathlib.Core.Bool.{Bool, true, false, cond}
-use mathlib.Core.List.{List}
+use mathlib.Core.List.{List, _++_}
 use native.Mathlib.Nat.{mod-lt, lt-of-not-le, zero-lt-suc}
 use native.Mathlib.Decide.{decLe}
 use native.Mathlib.Omega.{arith}
@@ -12,11 +12,11 @@ use lib.IntN.{ℤ}
 use lib.ListN.{length}
 use lib.Ieee.{Float, nan, inf, fin, Format, binary32, binary64, low, hid, ones, minus, toBits, fits}
 use Rattle.lexical_float.specs.declared.num.Parts.{Parts}
-use Rattle.lexical_float.specs.declared.num.Parts.the-variants.{Negative}
 use Rattle.lexical_util.specs.Answer.{Answer, done, refused, andThen, written, held}
 use Rattle.lexical_exponent.specs.Exponent.{scale, place}
 use Rattle.lexical_float.specs.Fields.{biased, mantissa, exponent}
 use Rattle.lexical_float.specs.Parts.{partsOf, IsValue}
+use Rattle.lexical_float.specs.Sign.{minusSign}
 use Rattle.lexical_util.proofs.AnswerLaws.{refused-done, done-same}
 use Rattle.lexical_exponent.proofs.DifferenceLaws.{minus-ge, minus-lt}
 use Rattle.lexical_format.specs.declared.checks.CheckedFormat.{CheckedFormat}
@@ -76,10 +76,9 @@ own-parts : (f : Format) (x : Float) → T (fits f x) → IsValue x (partsOf f x
 unfolding partsOf
 own-parts f nan t v = tt
 own-parts f (inf s) t v = tt
-own-parts f (fin true m e) t v = tt
-own-parts f (fin false m e) t v =
-    let x : Float = fin false m e in
-    record { width = f; m = m; e = e; fits-width = t; is = float-normal f m (mantissa f x) e (exponent f x) t v; near = exponent-near f x }
+own-parts f (fin s m e) t v =
+    let x : Float = fin s m e in
+    record { width = f; m = m; e = e; sign = s; fits-width = t; is = float-normal f s m (mantissa f x) e (exponent f x) t v; near = exponent-near f x }
 
 pub of-float : (f : Format) (x : Float) (r : Parts) → T (fits f x) → r ≡ partsOf f x → IsValue x r → OfFloat r
 of-float f x r t e v = subst OfFloat (sym e) (own-parts f x t (subst (IsValue x) e v))
@@ -89,10 +88,10 @@ own-text : (f : Format) (F : NumberFormat) (o : Options) (x : Float) (row : Pair
 unfolding partsOf floatText
 own-text f F o nan row t v = refl
 own-text f F o (inf s) row t v = refl
-own-text f F o (fin true m e) row t v = refl
-own-text f F o (fin false m e) row t v =
-    let x : Float = fin false m e in
-    ap done (ap (λ (y : Value). limitedText F o (checkedRow (settled o row)) (y .m) (y .e)) (float-normal f m (mantissa f x) e (exponent f x) t v) ∙ (unfold limitedText in row-text F o row _ _))
+own-text f F o (fin s m e) row t v =
+    let x : Float = fin s m e in
+    ap (λ (l : List ℕ). done (minusSign s ++ l))
+    (ap (λ (y : Value). limitedText F o (checkedRow (settled o row)) (y .m) (y .e)) (float-normal f s m (mantissa f x) e (exponent f x) t v) ∙ (unfold limitedText in row-text F o row _ _))
 
 parts-text : (f : Format) (F : NumberFormat) (o : Options) (x : Float) (r : Parts) → T (fits f x) → r ≡ partsOf f x → IsValue x r → askedByParts F o r ≡ writeText F o x
 unfolding checkedFormat writeText
@@ -119,8 +118,7 @@ never-refused : (F : NumberFormat) (o : Options) (x : Float) (out : List ℕ) (a
 unfolding writeText floatText
 never-refused F o nan out a e = λ row p w h. absurd p
 never-refused F o (inf s) out a e = λ row p w h. absurd p
-never-refused F o (fin true m d) out a e = λ row p w h. absurd p
-never-refused F o (fin false m d) out a e = λ row p w h. e ∙ rw (w, le-leb (length (limitedText F o row m d)) (length out) h) refl
+never-refused F o (fin s m d) out a e = λ row p w h. e ∙ rw (w, le-leb (length (minusSign s ++ limitedText F o row m d)) (length out) h) refl
 
 -- ---- all that a call promises: the answer, the lent bytes, and the two
 abbrev pub Answered : NumberFormat → Options → Float → List ℕ → Answer ℕ → List ℕ → Type 0

@@ -1,7 +1,7 @@
 -- The normal form of a float's mantissa and exponent is the float itself, for both widths. Assumes nothing.
 use Prim.Native.Nat.{ℕ, zero, suc, _+_, _*_, _%_, _^_, _<_}
 use mathlib.Core.Path.{_≡_, refl, sym, ap, ap₂, _∙_, subst}
-use mathlib.Core.Bool.{false}
+use mathlib.Core.Bool.{Bool}
 use native.Mathlib.Nat.{lt-of-lt-of-le, mul-one, one-mul, zero-mul, mul-assoc, mul-pos, zero-add, zero-lt-suc, pow-suc}
 use native.Mathlib.Omega.{arith}
 use borrow.Author.Tests.{lt-ltb, le-ltb}
@@ -83,18 +83,18 @@ unit-power (pos zero) h = refl
 unit-power (pos (suc n)) h = absurd (omega (arith, pow-suc 2 n, pow-pos n, mul-one (2 ^ suc n)))
 unit-power (negsuc n) h = absurd (omega (arith, pow-suc 2 n, pow-pos n, one-mul (2 ^ suc n)))
 
-pub float-normal : (f : Format) (m q : ℕ) (e d : ℤ) → T (fits f (fin false m e)) → HasValue (fin false m e) false (q * up d) (down d) → normal q d ≡ record { m = m; e = e }
+pub float-normal : (f : Format) (s : Bool) (m q : ℕ) (e d : ℤ) → T (fits f (fin s m e)) → HasValue (fin s m e) s (q * up d) (down d) → normal q d ≡ record { m = m; e = e }
 unfolding fits
-float-normal f zero zero e d t h = unfold normal in ap (λ (z : ℤ). record { m = 0; e = z }) (sym (unit-power e (eqb→eq (up e * down e) 1 t)))
-float-normal f zero (suc q) e d t h = absurd (no-value q d e (h .1))
-float-normal f (suc m) q e d t h = odd-normal (suc m) q e d (in-range f (suc m) e (zero-lt-suc m) (unfold fits in t) .odd) (h .1)
+float-normal f s zero zero e d t h = unfold normal in ap (λ (z : ℤ). record { m = 0; e = z }) (sym (unit-power e (eqb→eq (up e * down e) 1 t)))
+float-normal f s zero (suc q) e d t h = absurd (no-value q d e (h .1))
+float-normal f s (suc m) q e d t h = odd-normal (suc m) q e d (in-range f s (suc m) e (zero-lt-suc m) (unfold fits in t) .odd) (h .1)
 
 -- ---- how large a float's numbers are
-pub float-near : (f : Format) (m : ℕ) (e : ℤ) → T (fits f (fin false m e)) → (m < 2 ^ 60) × Between 4000 4000 e
+pub float-near : (f : Format) (s : Bool) (m : ℕ) (e : ℤ) → T (fits f (fin s m e)) → (m < 2 ^ 60) × Between 4000 4000 e
 unfolding fits
-float-near f zero e t = (pow-pos 60, rw (unit-power e (eqb→eq (up e * down e) 1 t)) (omega arith))
-float-near f (suc m) e t =
-    let r = in-range f (suc m) e (zero-lt-suc m) (unfold fits in t) in
+float-near f s zero e t = (pow-pos 60, rw (unit-power e (eqb→eq (up e * down e) 1 t)) (omega arith))
+float-near f s (suc m) e t =
+    let r = in-range f s (suc m) e (zero-lt-suc m) (unfold fits in t) in
     (lt-of-lt-of-le (size-lt (suc m)) (pow-mono {i = size (suc m)} {j = 60} (omega (arith, r .few))), between-wider 1074 1023 4000 4000 e (omega arith) (omega arith) (r .low-end))
 
 -- ---- a float's parts in the code: their normal form r, and t, which the digit limit made of it
@@ -106,12 +106,12 @@ module _ (v : Magnitude) (P : FloatParts v) (r : Magnitude) (q : ofMagnitude r �
   exponent-is = ap (λ (x : Value). x .e) (q ∙ P .is)
 
   pub normal-near : (r .mantissa < 2 ^ 60) × Between 4000 4000 (r .exponent .0)
-  normal-near = rw (mantissa-is, exponent-is) (float-near (P .width) (P .m) (P .e) (P .fits-width))
+  normal-near = rw (mantissa-is, exponent-is) (float-near (P .width) (P .sign) (P .m) (P .e) (P .fits-width))
 
   pub limited-near : (mode : RoundMode) (b k : ℕ) (t : Magnitude) → 0 < b → ofMagnitude t ≡ limited mode b k (r .mantissa) (r .exponent .0) → Ranged (t .mantissa) (t .exponent .0)
   limited-near mode b k t B l =
       let w : ofMagnitude t ≡ limited mode b k (P .m) (P .e) = l ∙ ap₂ (limited mode b k) mantissa-is exponent-is in
-      subst (λ (x : Value). Ranged (x .m) (x .e)) (sym w) (limited-fits (P .width) mode b k (P .m) (P .e) B (P .fits-width))
+      subst (λ (x : Value). Ranged (x .m) (x .e)) (sym w) (limited-fits (P .width) (P .sign) mode b k (P .m) (P .e) B (P .fits-width))
 
   pub limited-text : (F : NumberFormat) (o : Options) (c : CheckedFormat) (t : Magnitude) → ofMagnitude t ≡ limited (o .«round_mode») (c .b) (o .«max_significant_digits») (r .mantissa) (r .exponent .0)
       → text F o (checkedRow c) (t .mantissa) (t .exponent .0) ≡ magnitudeText F o c v

@@ -4,4 +4,5 @@ pub mod PowerLaws
 pub mod PlanLaws
 pub mod TextLaws
 pub mod AnswerLaws
+pub mod SignLaws
 pub mod OneDigit

@@ -13,6 +13,7 @@ use Rattle.lexical_exponent.specs.Exponent.{place, placesBeforePoint}
 use Rattle.lexical_exponent.specs.declared.exponent.Magnitude.{Magnitude}
 use Rattle.lexical_float.specs.declared.num.Parts.{Parts}
 use Rattle.lexical_float.specs.declared.num.Parts.the-variants as parts
+use Rattle.lexical_float.specs.Sign.{minusSign}
 use Rattle.lexical_write_integer_spec.specs.Digits.{numeral}
 use Rattle.lexical_format.specs.declared.checks.CheckedFormat.{CheckedFormat}
 use Rattle.lexical_format.specs.declared.format.Pair.{Pair}
@@ -34,12 +35,13 @@ use Rattle.lexical_write_float_spec.specs.Write.{limitedText}
 abbrev pub ofMagnitude : Magnitude → Value
 ofMagnitude v = record { m = v .mantissa; e = v .exponent .0 }
 
--- the parts of a finite float with the sign bit clear, of either width
+-- the magnitude of a finite float of either width
 pub record FloatParts (v : Magnitude) : Type 0 where
   pub width : Format
   pub m : ℕ
   pub e : ℤ
-  pub fits-width : T (fits width (fin false m e))
+  pub sign : Bool
+  pub fits-width : T (fits width (fin sign m e))
   pub is : normal (v .mantissa) (v .exponent .0) ≡ record { m = m; e = e }
   pub near : Between 8000 8000 (v .exponent .0)
 
@@ -117,10 +119,9 @@ tailText Positive mark negative plus radix width n = []
 abbrev pub magnitudeText : NumberFormat → Options → CheckedFormat → Magnitude → List ℕ
 magnitudeText F o checked v = let x = normal (v .mantissa) (v .exponent .0) in limitedText F o (checkedRow checked) (x .m) (x .e)
 
--- what the parts of a float are asked for: 7 for all but a finite float with the sign bit clear
+-- what the parts of a float are asked for: the sign and the magnitude's text, or 7
 abbrev pub partsText : NumberFormat → Options → CheckedFormat → Parts → Answer (List ℕ)
-partsText F o checked (parts.Plain v) = done (magnitudeText F o checked v)
-partsText F o checked (parts.Negative v) = refused 7 0
+partsText F o checked (parts.Finite s v) = done (minusSign s ++ magnitudeText F o checked v)
 partsText F o checked parts.Special = refused 7 0
 
 -- and in any format, whose refusals come first
@@ -129,6 +130,5 @@ askedByParts F o parts = andThen (checkedFormat F o) (λ checked. partsText F o 
 
 -- parts of a float: what they say of one that is written
 abbrev pub OfFloat : Parts → Type 0
-OfFloat (parts.Plain v) = FloatParts v
-OfFloat (parts.Negative v) = Unit {0}
+OfFloat (parts.Finite s v) = FloatParts v
 OfFloat parts.Special = Unit {0}

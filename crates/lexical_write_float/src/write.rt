@@ -1,10 +1,11 @@
 // Derived from `write_float` of lexical-write-float/src/binary.rs, for equal pairs, and hex.rs, for mixed ones, changed: one body over a float's parts for both widths and all ten pairs, and refusals for assertions.
 ghost use mathlib.Core.Path.{_≡_};
-ghost use mathlib.Core.List.{List};
+ghost use mathlib.Core.List.{List, _++_};
 ghost use Prim.Native.Nat.{ℕ, _^_, _≤_, _<_};
 ghost use lib.IntN.{natAbs};
-ghost use lib.ListN.{length};
+ghost use lib.ListN.{length, drop};
 ghost use Rattle.lexical_util.specs.Answer.{done, written, held, ofWritten};
+ghost use Rattle.lexical_float.specs.Sign.{minusSign};
 ghost use Rattle.lexical_format.specs.declared.format.NumberFormat.{NumberFormat};
 ghost use Rattle.lexical_format.specs.declared.options.Options.{Options};
 ghost use Rattle.lexical_write_float_spec.specs.Value.{exactDigits};
@@ -31,6 +32,7 @@ use lexical_exponent::digit_exponent;
 use lexical_exponent::places_before_point;
 use lexical_exponent::sci_exp;
 use lexical_float::Parts;
+use lexical_float::minus_length;
 use lexical_float::parts_f32;
 use lexical_float::parts_f64;
 use lexical_format::CheckedFormat;
@@ -41,8 +43,8 @@ use lexical_util::Refusal;
 use lexical_util::Written;
 use lexical_write_float_spec::Layout;
 
-// No text is longer: document 01, "Layout". A buffer of so many bytes serves every float, format and option.
-pub const LONGEST_TEXT: usize = 2275;
+// No text is longer: document 01, "Layout", and a byte for the sign, document 02, 2.3. A buffer of so many bytes serves every float, format and option.
+pub const LONGEST_TEXT: usize = 2276;
 
 // D of a value: the mantissa is shifted up by e mod b, and what is left of e is a whole number of digits.
 fn digits_of(value: Magnitude, bits_per_digit: u32) -> Digits
@@ -141,7 +143,7 @@ fn write_value(
     write_plan(digits, plan, layout, exponent, format, options, buffer)
 }
 
-// The text of a finite float with the sign bit clear, by its parts, if there is room for it, and its length.
+// The text of a finite float's magnitude, if there is room for it, and its length.
 fn write_float(
     value: Magnitude,
     format: NumberFormat,
@@ -160,20 +162,51 @@ fn write_float(
     write_value(limited, format, options, checked, buffer)
 }
 
-// The answer for a text of so many bytes and a buffer of some room: the length, or refusal 8.
-fn written_in(room: usize, count: usize) -> Written
-    ensures { λ r. ⌜ ((t d : List ℕ) → length d ≡ room → length t ≡ count → ofWritten r ≡ written (done t) d) ⌝ }
+// The sign in front of a text.
+fn put_minus(buffer: &mut [u8], negative: bool)
+    requires { ⌜ length (minusSign negative) ≤ length (now buffer) ⌝ }
+    ensures { λ _. ⌜ now (buffer .exit) ≡ minusSign negative ++ drop (length (minusSign negative)) (now (buffer .entry)) ⌝ }
 {
-    if count > room {
+    if negative {
+        buffer[0] = b'-';
+    }
+}
+
+// The text of a finite float, or 8. Its sign is written last: only then is it known that there is room for the whole.
+fn write_signed(
+    negative: bool,
+    value: Magnitude,
+    format: NumberFormat,
+    options: Options,
+    checked: CheckedFormat,
+    buffer: &mut [u8],
+) -> Written
+    requires { ⌜ Passed format options checked × FloatParts value ⌝ }
+    ensures { λ r. ⌜ ofWritten r ≡ written (done (minusSign negative ++ magnitudeText format options checked value)) (now (buffer .entry)) ⌝ }
+    ensures { λ _. ⌜ now (buffer .exit) ≡ held (done (minusSign negative ++ magnitudeText format options checked value)) (now (buffer .entry)) ⌝ }
+{
+    let sign = minus_length(negative);
+    let room = buffer.len();
+    if room < sign {
         return Written::Refused(Refusal {
             number: 8,
             place: 0,
         });
     }
-    Written::Length(count)
+    let left = room - sign;
+    let count = write_float(value, format, options, checked, &mut buffer[sign..]);
+    if count > left {
+        return Written::Refused(Refusal {
+            number: 8,
+            place: 0,
+        });
+    }
+    put_minus(buffer, negative);
+    let length = sign + count;
+    Written::Length(length)
 }
 
-// The text of a float by its parts, in a format that passed the check; 7 where it is not finite, or its sign bit is set.
+// The text of a float by its parts, in a format that passed the check; 7 where it is not finite.
 fn write_checked(
     parts: Parts,
     format: NumberFormat,
@@ -185,16 +218,10 @@ fn write_checked(
     ensures { λ r. ⌜ ofWritten r ≡ written (partsText format options checked parts) (now (buffer .entry)) ⌝ }
     ensures { λ _. ⌜ now (buffer .exit) ≡ held (partsText format options checked parts) (now (buffer .entry)) ⌝ }
 {
-    let room = buffer.len();
     match parts {
-        Parts::Plain(value) => {
-            let count = write_float(value, format, options, checked, buffer);
-            written_in(room, count)
+        Parts::Finite(negative, value) => {
+            write_signed(negative, value, format, options, checked, buffer)
         }
-        Parts::Negative(_) => Written::Refused(Refusal {
-            number: 7,
-            place: 0,
-        }),
         Parts::Special => Written::Refused(Refusal {
             number: 7,
             place: 0,

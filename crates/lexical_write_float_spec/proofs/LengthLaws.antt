@@ -1,4 +1,4 @@
--- How long a text is, by its layout: with at most 64 digits in D and 1,200 least digits, and s from -1,074 to 1,024, no more than `longestText` bytes. Assumes nothing.
+-- How long a magnitude's text is, by its layout: with at most 64 digits in D and 1,200 least digits, and s from -1,074 to 1,024, less than `longestText` bytes. Assumes nothing.
 use Prim.Native.Nat.{ℕ, _+_, _-_, _*_, _/_, _≤_, _<_, min, max}
 use mathlib.Core.Path.{_≡_}
 use mathlib.Core.Bool.{Bool, true, false, not, cond, _&&_}
@@ -56,18 +56,18 @@ module _ (F : NumberFormat) (o : Options) (row : Pair) (W : Writable F o row) wh
         go false true = omega arith
         go false false = simp length-replicate (omega (arith, l))
 
-    negative-length : (p : ℤ) → natAbs p ≤ 1074 → length (negative F o D p) ≤ longestText
+    negative-length : (p : ℤ) → natAbs p ≤ 1074 → length (negative F o D p) < longestText
     unfolding negative
     negative-length p h = let l = W .least in simp (length-append, length-replicate) (omega arith)
 
-    positive-length : (places soFar : ℕ) → places ≤ 1025 → length (positive F o D places soFar) ≤ longestText
+    positive-length : (places soFar : ℕ) → places ≤ 1025 → length (positive F o D places soFar) < longestText
     unfolding positive
     positive-length places soFar h = go (ltb places (length D)) (trim F o)
       where
         l : least F o ≤ mostCount
         l = W .least
 
-        go : (a b : Bool) → length (cond a (take places D ++ (point F o ∷ (drop places D ++ zeros (least F o - length D)))) (D ++ (zeros (places - length D) ++ cond b [] (point F o ∷ (48 ∷ zeros (least F o - soFar)))))) ≤ longestText
+        go : (a b : Bool) → length (cond a (take places D ++ (point F o ∷ (drop places D ++ zeros (least F o - length D)))) (D ++ (zeros (places - length D) ++ cond b [] (point F o ∷ (48 ∷ zeros (least F o - soFar)))))) < longestText
         go true b = simp (length-append, length-take, length-drop, length-replicate) (omega (arith, l, few, h))
         go false true = simp (length-append, length-replicate) (omega (arith, few, h))
         go false false = simp (length-append, length-replicate) (omega (arith, l, few, h))
@@ -88,15 +88,15 @@ module _ (F : NumberFormat) (o : Options) (row : Pair) (W : Writable F o row) wh
       simp length-append (omega (arith, sign-length p, few-digits (F .«exponent_radix») (o .«exponent_width») (power (row .b) (row .c) p) (R .power) (W .width) (power-few (row .b) (row .c) p (R .pair .few-bits) h)))
 
   -- ---- the whole text
-  laid-length : (D : List ℕ) (soFar : ℕ) (s : ℤ) → length D ≤ 64 → Between 1074 1024 s → length (laidOut F o row D (place (row .b) s) soFar (layoutOf F o s)) ≤ longestText
+  laid-length : (D : List ℕ) (soFar : ℕ) (s : ℤ) → length D ≤ 64 → Between 1074 1024 s → length (laidOut F o row D (place (row .b) s) soFar (layoutOf F o s)) < longestText
   unfolding layoutOf
   laid-length D soFar s few h = go (isScientific F o s) s h
     where
-      go : (b : Bool) (s : ℤ) → Between 1074 1024 s → length (laidOut F o row D (place (row .b) s) soFar (cond b Scientific (cond (ltZ s (pos 0)) Negative Positive))) ≤ longestText
+      go : (b : Bool) (s : ℤ) → Between 1074 1024 s → length (laidOut F o row D (place (row .b) s) soFar (cond b Scientific (cond (ltZ s (pos 0)) Negative Positive))) < longestText
       go true s h = simp length-append (omega (arith, scientific-length D few, exponent-length (place (row .b) s) (place-near (row .b) s h)))
       go false (pos n) h = rw (leb·suc-zero n) (positive-length D few (n / row .b + 1) soFar (omega (arith, div-le-self n (row .b))))
       go false (negsuc n) h = negative-length D few (negsuc (n / row .b)) (omega (arith, div-le-self n (row .b)))
 
-  pub text-length : (m : ℕ) (e : ℤ) → Ranged m e → length (text F o row m e) ≤ longestText
+  pub text-length : (m : ℕ) (e : ℤ) → Ranged m e → length (text F o row m e) < longestText
   unfolding text
   text-length m e r = laid-length (exactDigits (row .b) m e) (digitsSoFar F o m (exactDigits (row .b) m e)) (scale m e) (exact-few (row .b) m e (W .reads .pair .some-bits) (W .reads .pair .few-bits) (r .few)) (r .near)

@@ -1,7 +1,7 @@
 -- The s of every value that is written lies from -1,074 to 1,024, and its mantissa below 2 ^ 54: of a float of either width, and after a digit limit. Assumes nothing.
 use Prim.Native.Nat.{ℕ, zero, suc, _+_, _-_, _*_, _/_, _%_, _^_, _≤_, _<_, zero-le}
 use mathlib.Core.Path.{_≡_, refl, sym, ap, _∙_}
-use mathlib.Core.Bool.{false}
+use mathlib.Core.Bool.{Bool}
 use native.Mathlib.Nat.{suc-le-suc-iff, mul-le-mul-left, le-trans, le-of-eq, lt-of-lt-of-le, mul-one, div-le-self, div-lt-iff-lt-mul, zero-lt-suc, pow-suc}
 use native.Mathlib.Omega.{arith}
 use lib.Dec.{T, leb, ltb, eqb, lit≤, ltb→lt, leb→le, eqb→eq}
@@ -34,10 +34,10 @@ pub record InRange (m : ℕ) (e : ℤ) : Type 0 where
   pub low-end : Between 1074 1023 e
   pub high-end : (n : ℕ) → e ≡ pos n → n + size m ≤ 1024
 
-pub in-range : (f : Format) (m : ℕ) (e : ℤ) → 0 < m → T (fits f (fin false m e)) → InRange m e
+pub in-range : (f : Format) (s : Bool) (m : ℕ) (e : ℤ) → 0 < m → T (fits f (fin s m e)) → InRange m e
 unfolding fits
-in-range f zero e M h = absurd (omega arith)
-in-range f (suc m) e M h =
+in-range f s zero e M h = absurd (omega arith)
+in-range f s (suc m) e M h =
     let A = eqb (suc m % 2) 1 in
     let B = ltb (suc m) (2 ^ prec f) in
     let C = leb (down e) (2 ^ low f) in
@@ -104,14 +104,14 @@ limited-ranged mode b (suc k) m e B M r =
     (cut-ranged m e r c (rounded mode m (2 ^ c)) (omega arith) (size-rounded mode m c (omega arith)) (le-trans (rounded-le mode m (2 ^ c)) (suc-le-suc-iff .1 (div-le-self m (2 ^ c))))))
 
 -- ---- of every float of either width that may be written, zero too
-pub fits-ranged : (f : Format) (m : ℕ) (e : ℤ) → T (fits f (fin false m e)) → Ranged m e
-fits-ranged f zero e h = record { few = pow-pos 54; near = zero-le }
-fits-ranged f (suc m) e h = float-ranged (suc m) e (zero-lt-suc m) (in-range f (suc m) e (zero-lt-suc m) h)
+pub fits-ranged : (f : Format) (s : Bool) (m : ℕ) (e : ℤ) → T (fits f (fin s m e)) → Ranged m e
+fits-ranged f s zero e h = record { few = pow-pos 54; near = zero-le }
+fits-ranged f s (suc m) e h = float-ranged (suc m) e (zero-lt-suc m) (in-range f s (suc m) e (zero-lt-suc m) h)
 
-pub limited-fits : (f : Format) (mode : RoundMode) (b k m : ℕ) (e : ℤ) → 0 < b → T (fits f (fin false m e)) → Ranged (limited mode b k m e .m) (limited mode b k m e .e)
-limited-fits f mode b zero m e B h = unfold limited in fits-ranged f m e h
-limited-fits f mode b (suc k) zero e B h = unfold limited in fits-ranged f zero e h
-limited-fits f mode b (suc k) (suc m) e B h = limited-ranged mode b (suc k) (suc m) e B (zero-lt-suc m) (in-range f (suc m) e (zero-lt-suc m) h)
+pub limited-fits : (f : Format) (s : Bool) (mode : RoundMode) (b k m : ℕ) (e : ℤ) → 0 < b → T (fits f (fin s m e)) → Ranged (limited mode b k m e .m) (limited mode b k m e .e)
+limited-fits f s mode b zero m e B h = unfold limited in fits-ranged f s m e h
+limited-fits f s mode b (suc k) zero e B h = unfold limited in fits-ranged f s zero e h
+limited-fits f s mode b (suc k) (suc m) e B h = limited-ranged mode b (suc k) (suc m) e B (zero-lt-suc m) (in-range f s (suc m) e (zero-lt-suc m) h)
 
 -- and p lies no farther than s
 pub place-near : (b : ℕ) (s : ℤ) → Between 1074 1024 s → natAbs (place b s) ≤ 1074

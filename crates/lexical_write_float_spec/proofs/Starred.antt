@@ -11,7 +11,7 @@ use Rattle.lexical_write_float_spec.specs.Value.{normal, exactDigits}
 use Rattle.lexical_write_float_spec.specs.Limit.{multipleOf, limited}
 use Rattle.lexical_write_float_spec.specs.Text.{isScientific, layoutOf, scientific, exponentText, negative, positive, text}
 use Rattle.lexical_write_float_spec.specs.Write.{limitedText, floatText, writeText}
-use Rattle.lexical_write_float_spec.specs.Examples.{starred, unstarred, further, widths, longest}
+use Rattle.lexical_write_float_spec.specs.Examples.{starred, unstarred, further, widths, signs, longest}
 
 pub starred-hold : failing starred ≡ []
 unfolding failing starred writeText floatText limitedText text positive negative exponentText scientific layoutOf isScientific limited multipleOf exactDigits normal writingFormat badBreaks badCounts badBytes badByte pairOf findPair pairs numeral widened digits digitsUpTo isWidth isRadix isDigit digitIn digitValue digitByte round units odd size span climb trailingZeros
@@ -28,6 +28,10 @@ further-hold = refl
 pub widths-hold : failing widths ≡ []
 unfolding failing widths writeText floatText limitedText text positive negative exponentText scientific layoutOf isScientific limited multipleOf exactDigits normal writingFormat badBreaks badCounts badBytes badByte pairOf findPair pairs numeral widened digits digitsUpTo isWidth isRadix isDigit digitIn digitValue digitByte round units odd size span climb trailingZeros
 widths-hold = refl
+
+pub signs-hold : failing signs ≡ []
+unfolding failing signs writeText floatText limitedText text positive negative exponentText scientific layoutOf isScientific limited multipleOf exactDigits normal writingFormat badBreaks badCounts badBytes badByte pairOf findPair pairs numeral widened digits digitsUpTo isWidth isRadix isDigit digitIn digitValue digitByte round units odd size span climb trailingZeros
+signs-hold = refl
 
 pub longest-hold : failing longest ≡ []
 unfolding failing longest writeText floatText limitedText text positive negative exponentText scientific layoutOf isScientific limited multipleOf exactDigits normal writingFormat badBreaks badCounts badBytes badByte pairOf findPair pairs numeral widened digits digitsUpTo isWidth isRadix isDigit digitIn digitValue digitByte round units odd size span climb trailingZeros

@@ -6,7 +6,7 @@ use mathlib.Core.List.{List, [], _∷_, _++_}
 use lib.Dec.{eqb}
 use lib.IntN.{ℤ, pos}
 use lib.ListN.{length, drop, replicate}
-use lib.Ieee.{Float, binary32, binary64, round}
+use lib.Ieee.{Float, nan, inf, binary32, binary64, round}
 use Rattle.lexical_util.specs.Answer.{Answer, done, refused, written, held}
 use Rattle.lexical_util.specs.Examples.{bytes, sameBytes, sameAnswer, Example}
 use Rattle.lexical_format.specs.declared.format.NumberFormat.{NumberFormat}
@@ -59,9 +59,12 @@ default = options 0 0 Round false
 abbrev trimmed : Options
 trimmed = options 0 0 Round true
 
--- the float of num / den
+-- the float of num / den, and that of -num / den
 abbrev double : ℕ → ℕ → Float
 double num den = round binary64 false num den
+
+abbrev minus : ℕ → ℕ → Float
+minus num den = round binary64 true num den
 
 -- ---- what an example asks for
 -- the answer and the lent bytes: a text in front of what they held, or a refusal and what they held
@@ -113,7 +116,6 @@ unstarred =
     ∷ is "limit, 16/16/16: 2.5, one digit, a tie to the even one" (plain 16 16 16) (options 0 1 Round false) (double 5 2) "2.0"
     ∷ is "limit, 16/2/10: 64-bit largest, one digit" (plain 16 2 10) (options 0 1 Round false) (double (2 ^ 1024 - 2 ^ 971) 1) "1.0^1024"
     ∷ record { name = "least 1,201"; holds = refuses (plain 2 2 2) (options 1201 0 Round false) (double 0 1) (lent 20) 5 }
-    ∷ record { name = "-0"; holds = refuses (plain 2 2 2) default (round binary64 true 0 1) (lent 20) 7 }
     ∷ []
 
 -- the examples of docs/FORMAT.md that stand in neither list
@@ -149,13 +151,35 @@ widths =
     ∷ record { name = "width 0"; holds = refuses (plain 2 2 2) (wide 0) (double 0 1) (lent 20) 16 }
     ∷ record { name = "width 5"; holds = refuses (plain 2 2 2) (wide 5) (double 0 1) (lent 20) 16 }
     ∷ record { name = "6 before 16"; holds = refuses (plain 2 2 2) (optionsWith 0 0 (pos 1) 0 Round false) (double 0 1) (lent 20) 6 }
-    ∷ record { name = "16 before 7"; holds = refuses (plain 2 2 2) (wide 0) (round binary64 true 0 1) (lent 20) 16 }
+    ∷ record { name = "16 before 7"; holds = refuses (plain 2 2 2) (wide 0) (inf true) (lent 20) 16 }
+    ∷ []
+
+-- document 02, 2.3: "-" for a set sign bit, minus zero's too, and the digit limit on the magnitude; 8 counts the sign, and 7 means not finite
+unfoldable pub signs : List Example
+signs =
+    is "2/2/2: -0" (plain 2 2 2) default (minus 0 1) "-0.0"
+    ∷ is "2/2/2: -0, exponent required" (format 2 2 2 true false) default (minus 0 1) "-0.0^0"
+    ∷ is "2/2/2: -0, trim" (plain 2 2 2) trimmed (minus 0 1) "-0"
+    ∷ is "2/2/2: -0, least 5" (plain 2 2 2) (options 5 0 Round false) (minus 0 1) "-0.00000"
+    ∷ is "16/16/16: -512" (plain 16 16 16) default (minus 512 1) "-200.0"
+    ∷ is "16/16/16: -1,024, sign" (format 16 16 16 false true) default (minus 1024 1) "-4.0^+2"
+    ∷ is "16/16/16: -2^-5" (plain 16 16 16) default (minus 1 (2 ^ 5)) "-0.08"
+    ∷ is "16/2/10: -2^-6, width 3" (plain 16 2 10) (wide 3) (minus 1 (2 ^ 6)) "-4.0^-008"
+    ∷ is "32/32/10: -2^-1074" (plain 32 32 10) default (minus 1 (2 ^ 1074)) "-2.0^-215"
+    ∷ is "limit, 16/16/16: -1.5, one digit, Round" (plain 16 16 16) (options 0 1 Round false) (minus 3 2) "-2.0"
+    ∷ is "limit, 16/16/16: -1.5, one digit, Truncate" (plain 16 16 16) (options 0 1 Truncate false) (minus 3 2) "-1.0"
+    ∷ record { name = "16/16/16: -0.5, 3 bytes refused"; holds = refuses (plain 16 16 16) default (minus 1 2) (lent 3) 8 }
+    ∷ record { name = "16/16/16: -0.5, 4 enough"; holds = writes (plain 16 16 16) default (minus 1 2) (lent 4) (bytes "-0.8") }
+    ∷ record { name = "-0, no byte"; holds = refuses (plain 2 2 2) trimmed (minus 0 1) [] 8 }
+    ∷ record { name = "infinity"; holds = refuses (plain 2 2 2) default (inf false) (lent 20) 7 }
+    ∷ record { name = "-infinity"; holds = refuses (plain 2 2 2) default (inf true) (lent 20) 7 }
+    ∷ record { name = "NaN"; holds = refuses (plain 2 2 2) default nan (lent 20) 7 }
     ∷ []
 
 -- the longest text, with a digit limit and without: so many bytes are enough, and one less is refused
 abbrev longestIn : String → ℕ → ℕ → Answer ℕ → Example
 longestIn name most n wanted =
-    let t = writeText (formatWith 2 2 2 false true false false) (options 1200 most Round false) (double 1 (2 ^ 1074)) in
+    let t = writeText (formatWith 2 2 2 false true false false) (options 1200 most Round false) (minus 1 (2 ^ 1074)) in
     record { name = name; holds = sameAnswer eqb (written t (lent n)) wanted }
 
 unfoldable pub longest : List Example

@@ -80,7 +80,7 @@ value-within row power t s = go (exponentTooLarge power (s .tail))
     c : ℕ
     c = denominator row power s
 
-    go : (b : Bool) → Within {A = Float} any (length t) (elim b [ true ↦ refused 10 (exponentPlace t (s .tail)) | false ↦ floatOf binary64 a c ])
+    go : (b : Bool) → Within {A = Float} any (length t) (elim b [ true ↦ refused 10 (exponentPlace t (s .tail)) | false ↦ floatOf binary64 (s .negative) a c ])
     go true = exponent-within t (s .tail)
     go false = within-checked any (length t) ((11, tooLarge binary64 a c) ∷ []) _ tt
 

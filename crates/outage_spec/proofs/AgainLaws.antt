@@ -9,9 +9,11 @@ use lib.Dec.{T}
 use lib.ListN.{length, drop, length-append}
 use lib.Seq.{append-snoc, drop-append-seam, take-at}
 use lib.Ieee.{Float, binary64, ofBits, toBits, fits, lt}
-use lib.Ieee.Bits.{ofBits-toBits, toBits-lt}
+use lib.Ieee.Bits.{is-true, ofBits-toBits, toBits-lt}
+use lib.Ieee.Scale.{finite}
 use Rattle.lexical_util.specs.Answer.{Answer, done, refused, andThen, Check, checked}
 use Rattle.lexical_util.specs.Digit.{All}
+use Rattle.lexical_float.proofs.FloatLaws.{own-fraction}
 use Rattle.lexical_write_integer_spec.specs.Digits.{numeral}
 use Rattle.lexical_format.specs.declared.format.NumberFormat.{NumberFormat}
 use Rattle.lexical_format.specs.declared.format.Pair.{Pair}
@@ -19,9 +21,9 @@ use Rattle.lexical_format.specs.declared.options.Options.{Options}
 use Rattle.lexical_format.specs.Format.{writingFormat}
 use Rattle.lexical_read_float_spec.specs.Read.{readFloat}
 use Rattle.lexical_read_float_spec.proofs.ReadLaws.{read-is-nearest}
+use Rattle.lexical_write_float_spec.proofs.WriteLaws.{finite-text}
 use Rattle.outage_spec.specs.declared.window.Window.{Window}
 use Rattle.outage_spec.specs.Words.{ofBytes, toBytes, wordAt}
-use Rattle.lexical_float.specs.Parts.{isPlain}
 use Rattle.outage_spec.specs.Window.{Column, windowChecks, from}
 use Rattle.outage_spec.specs.Table.{tableSize, columnBytes, tableOf, tableCount, floatAt, rowAt, rowsFrom, tableWindows, mostWindows}
 use Rattle.outage_spec.specs.Sheet.{before, lacks, rowsText, sheetOf, fieldsWindow, lineWindow, rowIn, linesFrom}
@@ -29,15 +31,13 @@ use Rattle.outage_spec.specs.Calls.{sheetFormat, tableSheet, sheetTable}
 use Rattle.outage_spec.proofs.WordLaws.{bytes-length, of-bytes}
 use Rattle.outage_spec.proofs.StoredLaws.{column-length, table-length, stored}
 use Rattle.outage_spec.proofs.FormatLaws.{taken}
-use Rattle.outage_spec.proofs.TextLaws.{plain-text}
-use Rattle.outage_spec.proofs.TableLaws.{value-plain}
 use Rattle.outage_spec.proofs.RowLaws.{Sound}
 
 -- ---- what is known of a window that was read
 record Good (w : Window) : Type 0 where
   pub sound : Sound w
-  pub start-plain : isPlain (w .start) ≡ true
-  pub end-plain : isPlain (w .end) ≡ true
+  pub start-finite : T (finite (w .start))
+  pub end-finite : T (finite (w .end))
 
 abbrev OfRow : Answer Window → Type 0
 OfRow (done w) = Good w
@@ -71,8 +71,8 @@ module _ (F : NumberFormat) (o : Options) where
           let n = read-is-nearest binary64 F o e y g .nearest in
           record {
             sound = record { start-fits = m .held; end-fits = n .held; ordered = q };
-            start-plain = value-plain x false _ _ (m .signed);
-            end-plain = value-plain y false _ _ (n .signed);
+            start-finite = own-fraction x _ _ _ (m .signed) .is-finite;
+            end-finite = own-fraction y _ _ _ (n .signed) .is-finite;
           }
 
       go : (a : Answer Float) → readFloat binary64 F o s ≡ a → (b : Answer Float) → readFloat binary64 F o e ≡ b
@@ -162,7 +162,7 @@ module _ (pre : List Window) (w : Window) (ws : List Window) (good : Good w) whe
       let start = column-again (λ v. v .start) head (columnBytes (λ v. v .end) all ++ []) 8 (good .sound .start-fits) table-parts head-length in
       let size : length (head ++ columnBytes (λ v. v .start) all) ≡ 8 + 8 * length all = omega (arith, length-append head (columnBytes (λ v. v .start) all), head-length, column-length (λ v. v .start) all) in
       let end = column-again (λ v. v .end) (head ++ columnBytes (λ v. v .start) all) [] (8 + 8 * length all) (good .sound .end-fits) table-ends size in
-      rw (start, end, good .start-plain, good .end-plain, good .sound .ordered)
+      rw (start, end, is-true (finite (w .start)) (good .start-finite), is-true (finite (w .end)) (good .end-finite), good .sound .ordered)
 
 rows-again : (ws pre : List Window) → All Good ws → rowsFrom (tableOf (pre ++ ws)) (length (pre ++ ws)) (length pre) (length ws) ≡ done ws
 unfolding rowsFrom
@@ -184,8 +184,8 @@ rows-text : (F : NumberFormat) (o : Options) (row : Pair) → writingFormat F o 
 unfolding rowsText
 rows-text F o row w [] h = ([], refl)
 rows-text F o row w (v ∷ vs) h =
-    let s = plain-text F o row w (v .start) (h .0 .start-plain) in
-    let e = plain-text F o row w (v .end) (h .0 .end-plain) in
+    let s = finite-text F o row (v .start) w (h .0 .start-finite) in
+    let e = finite-text F o row (v .end) w (h .0 .end-finite) in
     let r = rows-text F o row w vs (h .1) in
     ((s .0 ++ (32 ∷ (e .0 ++ (10 ∷ [])))) ++ r .0, rw (s .1, e .1, r .1))
 

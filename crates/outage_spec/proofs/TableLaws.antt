@@ -10,13 +10,12 @@ use lib.ListN.{length, take, drop, length-drop, take-append-drop}
 use lib.Seq.{take-add, drop-drop, take-all}
 use lib.Ieee.{Float, nan, inf, fin, binary64, toBits, isNan, lt}
 use lib.Ieee.Bits.{ofBits-fits, toBits-ofBits}
-use lib.Ieee.Exact.{HasValue}
+use lib.Ieee.Scale.{finite}
 use Rattle.lexical_util.specs.Answer.{Answer, done, refused, andThen}
 use Rattle.lexical_util.specs.Digit.{All}
 use Rattle.lexical_util.proofs.AnswerLaws.{refused-done, done-same, passed}
 use Rattle.outage_spec.specs.declared.window.Window.{Window}
 use Rattle.outage_spec.specs.Words.{ofBytes, toBytes, wordAt}
-use Rattle.lexical_float.specs.Parts.{isPlain}
 use Rattle.outage_spec.specs.Window.{Column, columns, floatChecks, windowChecks, tableRow, from}
 use Rattle.outage_spec.specs.Table.{tableSize, columnBytes, tableOf, tableCount, floatAt, windowAt, rowAt, rowsFrom, mostWindows}
 use Rattle.outage_spec.proofs.WordLaws.{AreBytes, bytes-lt, bytes-of, all-take, all-drop, part-length}
@@ -43,8 +42,8 @@ header t n e =
 -- ---- one row
 pub record Passes (w v : Window) : Type 0 where
   pub same : w ≡ v
-  pub start-plain : isPlain (w .start) ≡ true
-  pub end-plain : isPlain (w .end) ≡ true
+  pub start-finite : finite (w .start) ≡ true
+  pub end-finite : finite (w .end) ≡ true
   pub ordered : lt (w .end) (w .start) ≡ false
 
 from-done : {A : Type 0} (p : ℕ) (a : Answer A) (v : A) → from p a ≡ done v → a ≡ done v
@@ -57,21 +56,16 @@ row-passes t n i v e =
     let k = passed (floatChecks columns w ++ windowChecks w) w v (from-done _ (tableRow w) v e) in
     record {
       same = k .1;
-      start-plain = not-false (isPlain (w .start)) (k .0 .0);
-      end-plain = not-false (isPlain (w .end)) (k .0 .1 .0);
+      start-finite = not-false (finite (w .start)) (k .0 .0);
+      end-finite = not-false (finite (w .end)) (k .0 .1 .0);
       ordered = k .0 .1 .1 .0;
     }
 
-plain-no-nan : (x : Float) → isPlain x ≡ true → T (not (isNan x))
+finite-no-nan : (x : Float) → finite x ≡ true → T (not (isNan x))
 unfolding isNan
-plain-no-nan nan e = subst T (sym e) tt
-plain-no-nan (inf s) e = tt
-plain-no-nan (fin s m d) e = tt
-
-pub value-plain : (x : Float) (s : Bool) (a c : ℕ) → HasValue x s a c → isPlain x ≡ not s
-value-plain nan s a c h = absurd h
-value-plain (inf t) s a c h = absurd h
-value-plain (fin t m e) s a c h = ap not (h .0)
+finite-no-nan nan e = subst T (sym e) tt
+finite-no-nan (inf s) e = tt
+finite-no-nan (fin s m d) e = tt
 
 -- ---- all rows
 pub record Split (t : List ℕ) (n i k : ℕ) (ws : List Window) : Type 0 where
@@ -118,11 +112,11 @@ module _ (t : List ℕ) (bytes : AreBytes t) where
   word-back : (k at : ℕ) → at + k ≤ length t → toBytes k (wordAt k t at) ≡ take k (drop at t)
   word-back k at h = rw (part-length t at k h) at (bytes-of (take k (drop at t)) (all-take k (drop at t) (all-drop at t bytes)))
 
-  float-back : (at : ℕ) → at + 8 ≤ length t → isPlain (floatAt t at) ≡ true → toBytes 8 (toBits binary64 (floatAt t at)) ≡ take 8 (drop at t)
+  float-back : (at : ℕ) → at + 8 ≤ length t → finite (floatAt t at) ≡ true → toBytes 8 (toBits binary64 (floatAt t at)) ≡ take 8 (drop at t)
   float-back at h p =
       let l = take 8 (drop at t) in
       let small : ofBytes l < 256 ^ 8 = rw (part-length t at 8 h) at (bytes-lt l (all-take 8 (drop at t) (all-drop at t bytes))) in
-      ap (toBytes 8) (toBits-ofBits binary64 (ofBytes l) small (plain-no-nan (floatAt t at) p)) ∙ word-back 8 at h
+      ap (toBytes 8) (toBits-ofBits binary64 (ofBytes l) small (finite-no-nan (floatAt t at) p)) ∙ word-back 8 at h
 
   -- eight bytes more
   take-more : (at k : ℕ) → take (8 * suc k) (drop at t) ≡ take 8 (drop at t) ++ take (8 * k) (drop (at + 8) t)
@@ -131,9 +125,9 @@ module _ (t : List ℕ) (bytes : AreBytes t) where
       rw (e, take-add 8 (8 * k) (drop at t), drop-drop 8 at t)
 
   module _ (n : ℕ) (size : length t ≡ tableSize n) where
-    -- k rows of a column that begins at a place: in each row its float stands there and is plain
+    -- k rows of a column that begins at a place: in each row its float stands there and is finite
     column-back : (c : Column) (base : ℕ) → 8 * n + base ≤ length t
-        → ((i : ℕ) (v : Window) → rowAt t n i ≡ done v → (c v ≡ floatAt t (base + 8 * i)) × (isPlain (floatAt t (base + 8 * i)) ≡ true))
+        → ((i : ℕ) (v : Window) → rowAt t n i ≡ done v → (c v ≡ floatAt t (base + 8 * i)) × (finite (floatAt t (base + 8 * i)) ≡ true))
         → (k i : ℕ) (ws : List Window) → i + k ≤ n → rowsFrom t n i k ≡ done ws → columnBytes c ws ≡ take (8 * k) (drop (base + 8 * i) t)
     unfolding columnBytes
     column-back c base room row zero i ws h e = ap (columnBytes c) (none-left t n i ws e)
@@ -147,8 +141,8 @@ module _ (t : List ℕ) (bytes : AreBytes t) where
     pub table-back : (ws : List Window) → Header t n → rowsFrom t n 0 n ≡ done ws → tableOf ws ≡ t
     unfolding tableOf
     table-back ws h e =
-        let starts = column-back (λ w. w .start) 8 (omega arith) (λ i v q. let p = row-passes t n i v q in (ap (λ (w : Window). w .start) (sym (p .same)), p .start-plain)) n 0 ws (omega arith) e in
-        let ends = column-back (λ w. w .end) (8 + 8 * n) (omega arith) (λ i v q. let p = row-passes t n i v q in (ap (λ (w : Window). w .end) (sym (p .same)), p .end-plain)) n 0 ws (omega arith) e in
+        let starts = column-back (λ w. w .start) 8 (omega arith) (λ i v q. let p = row-passes t n i v q in (ap (λ (w : Window). w .start) (sym (p .same)), p .start-finite)) n 0 ws (omega arith) e in
+        let ends = column-back (λ w. w .end) (8 + 8 * n) (omega arith) (λ i v q. let p = row-passes t n i v q in (ap (λ (w : Window). w .end) (sym (p .same)), p .end-finite)) n 0 ws (omega arith) e in
         let count : toBytes 4 n ≡ take 4 (drop 0 t) = ap (toBytes 4) (sym (h .is-count)) ∙ word-back 4 0 (omega arith) in
         let field : toBytes 4 (tableSize n) ≡ take 4 (drop 4 t) = ap (toBytes 4) (sym (h .is-length)) ∙ word-back 4 4 (omega arith) in
         let place : 8 + 8 * n + 8 * 0 ≡ 8 + 8 * n = omega arith in

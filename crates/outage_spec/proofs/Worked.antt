@@ -11,7 +11,7 @@ use Rattle.lexical_write_float_spec.specs.Value.{normal, exactDigits}
 use Rattle.lexical_write_float_spec.specs.Limit.{multipleOf, limited}
 use Rattle.lexical_write_float_spec.specs.Text.{isScientific, layoutOf, scientific, exponentText, negative, positive, text}
 use Rattle.lexical_write_float_spec.specs.Write.{limitedText, floatText, writeText}
-use Rattle.lexical_read_float_spec.specs.Parse.{run, signedExponent, parseTail, afterWhole, parse, shapeOf}
+use Rattle.lexical_read_float_spec.specs.Parse.{run, signedExponent, parseTail, afterWhole, parseUnsigned, parse, shapeOf}
 use Rattle.lexical_read_float_spec.specs.Round.{tooLarge}
 use Rattle.lexical_read_float_spec.specs.Read.{numerator, denominator, floatOf, exponentTooLarge, exponentPlace, valueOf, readText, readFloat}
 use Rattle.outage_spec.specs.Words.{ofBytes, toBytes}
@@ -25,5 +25,5 @@ unfolding failing tables tableSheet sheetFormat tableWindows tableCount rowsFrom
 tables-hold = refl
 
 pub sheets-hold : failing sheets ≡ []
-unfolding failing sheets sheetTable countedTable sheetCount numberIn digits digitsUpTo before linesFrom rowIn lineWindow fieldsWindow tableOf columnBytes toBytes toBits lt readFloat readText valueOf exponentTooLarge exponentPlace floatOf numerator denominator tooLarge shapeOf parse afterWhole parseTail signedExponent run readingFormat readOn badBytes badByte pairOf findPair pairs isRadix isDigit digitIn digitValue round units odd size span climb
+unfolding failing sheets sheetTable countedTable sheetCount numberIn digits digitsUpTo before linesFrom rowIn lineWindow fieldsWindow tableOf columnBytes toBytes toBits lt readFloat readText valueOf exponentTooLarge exponentPlace floatOf numerator denominator tooLarge shapeOf parse parseUnsigned afterWhole parseTail signedExponent run readingFormat readOn badBytes badByte pairOf findPair pairs isRadix isDigit digitIn digitValue round units odd size span climb
 sheets-hold = refl

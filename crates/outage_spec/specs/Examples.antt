@@ -25,7 +25,7 @@ words (b ∷ bs) = toBytes 8 b ++ words bs
 abbrev table : ℕ → ℕ → List ℕ → List ℕ
 table n size bits = toBytes 4 n ++ (toBytes 4 size ++ words bits)
 
--- 1.0, 1.5, -0, an infinity and a NaN
+-- 1.0, 1.5, -0, -1.0, -1.5, the infinities and a NaN with its sign bit set
 abbrev one : ℕ
 one = 0x3ff0000000000000
 
@@ -35,11 +35,20 @@ oneAndHalf = 0x3ff8000000000000
 abbrev minusZero : ℕ
 minusZero = 0x8000000000000000
 
+abbrev minusOne : ℕ
+minusOne = 0xbff0000000000000
+
+abbrev minusOneAndHalf : ℕ
+minusOneAndHalf = 0xbff8000000000000
+
 abbrev infinity : ℕ
 infinity = 0x7ff0000000000000
 
+abbrev minusInfinity : ℕ
+minusInfinity = 0xfff0000000000000
+
 abbrev notANumber : ℕ
-notANumber = 0x7ff8000000000000
+notANumber = 0xfff8000000000000
 
 -- 16/2, exponent radix 10, mark "p", exponent required
 abbrev prints : String → List ℕ → Answer (List ℕ) → Example
@@ -72,7 +81,11 @@ tables =
     ∷ prints "a byte too many" (table 0 8 [] ++ (0 ∷ [])) (refused 13 0)
     ∷ prints "the length field one off" (table 0 9 []) (refused 13 0)
     ∷ prints "401 windows" (table 401 6424 (replicate {A = ℕ} 802 one)) (refused 13 0)
-    ∷ prints "-0 as a start" (table 1 24 (minusZero ∷ one ∷ [])) (refused 7 0)
+    ∷ prints "-0 as a start" (table 1 24 (minusZero ∷ one ∷ [])) (done (lines ("1" ∷ "-0.0p0 1.0p0" ∷ [])))
+    ∷ prints "+0 to -0, and -0 to +0" (table 2 40 (0 ∷ minusZero ∷ minusZero ∷ 0 ∷ [])) (done (lines ("2" ∷ "0.0p0 -0.0p0" ∷ "-0.0p0 0.0p0" ∷ [])))
+    ∷ prints "a window before second zero" (table 1 24 (minusOneAndHalf ∷ minusOne ∷ [])) (done (lines ("1" ∷ "-1.8p0 -1.0p0" ∷ [])))
+    ∷ prints "an end below its start, before second zero" (table 1 24 (minusOne ∷ minusOneAndHalf ∷ [])) (refused 14 0)
+    ∷ prints "-infinity as a start" (table 1 24 (minusInfinity ∷ one ∷ [])) (refused 7 0)
     ∷ prints "an infinity as an end of row 1" (table 2 40 (one ∷ one ∷ one ∷ infinity ∷ [])) (refused 7 1)
     ∷ prints "a NaN as a start of row 1" (table 2 40 (one ∷ notANumber ∷ one ∷ one ∷ [])) (refused 7 1)
     ∷ prints "an end below its start" (table 1 24 (oneAndHalf ∷ one ∷ [])) (refused 14 0)
@@ -108,6 +121,12 @@ sheets =
     ∷ storesUnwritten "no 16 in reading" (lines ("1" ∷ "1.0p0 1.8p0" ∷ [])) 24 (done (table 1 24 (one ∷ oneAndHalf ∷ [])))
     ∷ stores "two windows" (lines ("2" ∷ "0 1.8" ∷ "10p-4 1" ∷ [])) 40 (done (table 2 40 (0 ∷ one ∷ oneAndHalf ∷ one ∷ [])))
     ∷ stores "an end above the largest float by less than half a step" (lines ("1" ∷ "1.0p0 F.FFFFFFFFFFFF8Fp1020" ∷ [])) 24 (done (table 1 24 (one ∷ 0x7fefffffffffffff ∷ [])))
+    ∷ stores "before second zero, and both zeros" (lines ("2" ∷ "-1.8 -10p-4" ∷ "-0 0" ∷ [])) 40 (done (table 2 40 (minusOneAndHalf ∷ minusZero ∷ minusOne ∷ 0 ∷ [])))
+    ∷ stores "+0 to -0, rounded to it" (lines ("1" ∷ "0 -1p-2000" ∷ [])) 24 (done (table 1 24 (0 ∷ minusZero ∷ [])))
+    ∷ wrong "an end below its start, before second zero" (lines ("1" ∷ "-1 -1.8" ∷ [])) 14 2
+    ∷ wrong "a start that is a sign" (lines ("1" ∷ "- 1" ∷ [])) 9 3
+    ∷ wrong "an end with two signs" (lines ("1" ∷ "-1 --1" ∷ [])) 9 6
+    ∷ wrong "an end with a plus" (lines ("1" ∷ "-1 +1" ∷ [])) 9 5
     ∷ wrong "an end half a step above the largest float" (lines ("1" ∷ "1.0p0 F.FFFFFFFFFFFFCp1020" ∷ [])) 11 8
     ∷ wrong "no byte" [] 15 0
     ∷ wrong "a count line without LF" (bytes "0") 15 0

@@ -3,8 +3,8 @@ use Prim.Native.Nat.{ℕ, _+_}
 use mathlib.Core.Bool.{not}
 use mathlib.Core.List.{List, [], _∷_, _++_}
 use lib.Ieee.{Float, lt}
+use lib.Ieee.Scale.{finite}
 use Rattle.lexical_util.specs.Answer.{Answer, done, refused, Check, checked}
-use Rattle.lexical_float.specs.Parts.{isPlain}
 use Rattle.outage_spec.specs.declared.window.Window.{Window}
 
 -- the columns of a table, the fields of a sheet's row: one start and one end
@@ -14,12 +14,12 @@ Column = Window → Float
 abbrev pub columns : List Column
 columns = (λ (w : Window). w .start) ∷ (λ (w : Window). w .end) ∷ []
 
--- 7 start, 7 end: not finite, or sign bit set (-0 too)
+-- 7 start, 7 end: not finite
 abbrev pub floatChecks : List Column → Window → List Check
 floatChecks [] w = []
-floatChecks (c ∷ cs) w = (7, not (isPlain (c w))) ∷ floatChecks cs w
+floatChecks (c ∷ cs) w = (7, not (finite (c w))) ∷ floatChecks cs w
 
--- 14 end below start
+-- 14 end below start, by value: minus zero is not below zero
 abbrev pub windowChecks : Window → List Check
 windowChecks w = (14, lt (w .end) (w .start)) ∷ []
 

@@ -1,4 +1,3 @@
-pub mod PlainLaws
 pub mod FormatLaws
 pub mod TextLaws
 pub mod TableLaws

@@ -27,7 +27,7 @@ pub row-texts : (F : NumberFormat) (o : Options) → Admitted F o → (t : List 
 row-texts F o A t n i v e =
     let p = row-passes t n i v e in
     let w = taken F o (A .0) (A .1) .writes in
-    subst (HasTexts F o) (p .same) (has-text F o (A .0) w _ (p .start-plain), has-text F o (A .0) w _ (p .end-plain))
+    subst (HasTexts F o) (p .same) (has-text F o (A .0) w _ (p .start-finite), has-text F o (A .0) w _ (p .end-finite))
 
 -- ---- one row more
 module _ (t : List ℕ) (n i : ℕ) where

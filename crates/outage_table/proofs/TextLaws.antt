@@ -1,12 +1,13 @@
 -- The text of a float that passed, what the writer answers for it, and the four pieces of a row. Assumes nothing.
 use Prim.Native.Nat.{ℕ, _+_, _≤_, _<_}
-use mathlib.Core.Path.{_≡_, refl, ap, _∙_}
+use mathlib.Core.Path.{_≡_, refl, sym, ap, _∙_, subst}
 use mathlib.Core.Bool.{true}
 use mathlib.Core.List.{List, [], _∷_}
 use native.Mathlib.Omega.{arith}
 use lib.Dec.{T}
 use lib.ListN.{length, length-append}
 use lib.Ieee.{Float, binary64, fits}
+use lib.Ieee.Scale.{finite}
 use Rattle.lexical_util.specs.Answer.{Answer, done, refused, written}
 use Rattle.lexical_util.proofs.AnswerLaws.{text-fits, done-same, refused-done}
 use Rattle.lexical_format.specs.declared.format.NumberFormat.{NumberFormat}
@@ -14,19 +15,17 @@ use Rattle.lexical_format.specs.declared.format.Pair.{Pair}
 use Rattle.lexical_format.specs.declared.options.Options.{Options}
 use Rattle.lexical_format.specs.Format.{writingFormat}
 use Rattle.lexical_write_float_spec.specs.Write.{writeText, longestText}
-use Rattle.lexical_write_float_spec.proofs.WriteLaws.{longest-text}
+use Rattle.lexical_write_float_spec.proofs.WriteLaws.{finite-text, longest-text}
 use Rattle.lexical_buffer.specs.Put.{Puts}
 use Rattle.lexical_buffer.proofs.PutLaws.{puts-more}
 use Rattle.outage_spec.specs.declared.window.Window.{Window}
-use Rattle.lexical_float.specs.Parts.{isPlain}
-use Rattle.outage_spec.proofs.TextLaws.{plain-text}
 use Rattle.outage_table.specs.Text.{textOf, rowOf, HasText}
 
 module _ (F : NumberFormat) (o : Options) where
   -- a float that passed has a text
-  pub has-text : (row : Pair) → writingFormat F o ≡ done row → (x : Float) → isPlain x ≡ true → HasText F o x
+  pub has-text : (row : Pair) → writingFormat F o ≡ done row → (x : Float) → finite x ≡ true → HasText F o x
   unfolding textOf
-  has-text row w x p = rw (plain-text F o row w x p .1)
+  has-text row w x p = rw (finite-text F o row x w (subst T (sym p) tt) .1)
 
   pub text-short : (x : Float) → T (fits binary64 x) → HasText F o x → length (textOf F o x) ≤ longestText
   text-short x h e = longest-text binary64 F o x (textOf F o x) h e

@@ -6,6 +6,8 @@ ghost use Rattle.outage.specs.Answer.{ofCheckedWindow};
 ghost use Rattle.outage_spec.specs.Table.{tableSize, tableCount, rowAt, rowsFrom, mostWindows};
 ghost use Rattle.outage_table.specs.Count.{ofCount, AreRows};
 use crate::word::word_at;
+use lexical_float::Width;
+use lexical_float::is_special;
 use lexical_util::Refusal;
 use outage::CheckedWindow;
 use outage::FLOAT_SIZE;
@@ -53,13 +55,13 @@ pub(crate) fn table_count(table: &[u8]) -> Count
     Count::Rows(n as usize)
 }
 
-// Row i of n. Infinities, NaNs and set sign bits are the patterns from the infinity's on: 7 is decided before a float is made of the bits.
+// Row i of n. 7 is decided before a float is made of the bits.
 pub(crate) fn row_at(table: &[u8], n: usize, i: usize) -> CheckedWindow
     requires { ⌜ (i < n) × (n ≤ mostWindows) × (length (now table) ≡ tableSize n) ⌝ }
     ensures { λ r. ⌜ ofCheckedWindow r ≡ rowAt (now (table .entry)) n i ⌝ }
 {
     let start = word_at(table, HEADER_SIZE + FLOAT_SIZE * i, FLOAT_SIZE);
-    if start >= 0x7ff0_0000_0000_0000 {
+    if is_special(start, Width::Binary64) {
         return CheckedWindow::Refused(Refusal {
             number: 7,
             place: i,
@@ -70,7 +72,7 @@ pub(crate) fn row_at(table: &[u8], n: usize, i: usize) -> CheckedWindow
         HEADER_SIZE + FLOAT_SIZE * n + FLOAT_SIZE * i,
         FLOAT_SIZE,
     );
-    if end >= 0x7ff0_0000_0000_0000 {
+    if is_special(end, Width::Binary64) {
         return CheckedWindow::Refused(Refusal {
             number: 7,
             place: i,

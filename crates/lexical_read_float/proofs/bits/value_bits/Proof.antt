@@ -63,7 +63,7 @@ round-kept-requires c κs =
     (s .pre .1, s .pre .0 .few-below, omega (arith, up-few c), omega (arith, down-is c, places-few b, power-few b .1))
 
 rounded-bits-requires : tie.Need-rounded-bits-requires
-rounded-bits-requires c κs = search needs
+rounded-bits-requires c κs = c .round-kept .ensures .1
 
 returns-2 : tie.Need-returns-2
 returns-2 c =
@@ -73,8 +73,8 @@ returns-2 c =
     let a = start e .args in
     let f = ofWidth (a .width) in
     let powers = p .powers-of .ensures ∙ ap₂ powersOf (b .before .digits-in-bits .ensures) (b .powers-in-bits .ensures) in (
-      λ t power s are is. value-scaled f (a .row) power t s (a .number) is (few e) (e .if1 .left) (small e) _ _ powers (c .rounded-bits .ensures .0 f ∙ c .before .round-kept .ensures .0 _ (kept-holds f (a .row) power t s (a .number) is are)),
-      c .rounded-bits .ensures .1 f (c .before .round-kept .ensures .1),
+      λ t power s are is. value-scaled f (a .row) power t s (a .number) is (few e) (e .if1 .left) (small e) _ _ powers (c .rounded-bits .ensures .0 ∙ c .before .round-kept .ensures .0 _ _ (kept-holds f (a .row) power t s (a .number) is are)),
+      c .rounded-bits .ensures .1,
     )
 
 pub value-bits-spec : {M : Type 1} → statement M

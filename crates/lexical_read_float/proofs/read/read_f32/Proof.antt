@@ -1,9 +1,10 @@
 -- `lexical_read_float::read::read_f32` meets its contract: the check of the format, then the text, whose bits are those of the float that the definition reads. Assumes nothing.
-use Prim.Native.Nat.{_<_}
+use Prim.Native.Nat.{_*_, _%_, _<_}
 use mathlib.Core.Path.{subst}
+use native.Mathlib.Nat.{le-of-lt}
 use native.Mathlib.Omega.{arith}
 use borrow.Author.Needs.{needs}
-use lib.Ieee.{binary32}
+use lib.Ieee.{binary32, top}
 use Rattle.lexical_float.proofs.PartsLaws.{tested-bits}
 use Rattle.lexical_read_float.specs.Pattern.{infinity}
 use Rattle.lexical_read_float.proofs.TextLaws.{passed, said, said-refused}
@@ -11,7 +12,7 @@ use Rattle.lexical_read_float.specs.Bits.{AreFinite}
 use Rattle.lexical_read_float.proofs.read.read_f32.Tie as tie
 use Rattle.lexical_read_float.proofs.read.read_f32.Statement.{statement}
 
-finite : (c : tie.After-bits) → c .bits .given .0 .0 < infinity binary32
+finite : (c : tie.After-bits) → (c .bits .given .0 .0 < 2 * top binary32) × (c .bits .given .0 .0 % top binary32 < infinity binary32)
 finite c = subst (AreFinite binary32) (c .bits .given .1) (c .before .before .text-bits .ensures .1)
 
 check-reading-requires : tie.Need-check-reading-requires
@@ -27,10 +28,10 @@ enum-known-bits : tie.Need-enum-known-bits
 enum-known-bits c = search needs
 
 cast-t13 : tie.Need-cast-t13
-cast-t13 c = omega (arith, finite (c .before))
+cast-t13 c = omega (arith, finite (c .before) .0)
 
 float-from-bits-t14 : tie.Need-float-from-bits-t14
-float-from-bits-t14 c = tested-bits binary32 _ (omega (arith, finite (c .before)))
+float-from-bits-t14 c = tested-bits binary32 _ (le-of-lt (finite (c .before) .1))
 
 enum-known-refusal : tie.Need-enum-known-refusal
 enum-known-refusal c = search needs

@@ -1,9 +1,9 @@
 -- `lexical_read_float::read::read_f64` meets its contract: the check of the format, then the text, whose bits are those of the float that the definition reads. Assumes nothing.
-use Prim.Native.Nat.{_<_}
+use Prim.Native.Nat.{_*_, _%_, _<_}
 use mathlib.Core.Path.{subst}
-use native.Mathlib.Omega.{arith}
+use native.Mathlib.Nat.{le-of-lt}
 use borrow.Author.Needs.{needs}
-use lib.Ieee.{binary64}
+use lib.Ieee.{binary64, top}
 use Rattle.lexical_float.proofs.PartsLaws.{tested-bits}
 use Rattle.lexical_read_float.specs.Pattern.{infinity}
 use Rattle.lexical_read_float.proofs.TextLaws.{passed, said, said-refused}
@@ -11,7 +11,7 @@ use Rattle.lexical_read_float.specs.Bits.{AreFinite}
 use Rattle.lexical_read_float.proofs.read.read_f64.Tie as tie
 use Rattle.lexical_read_float.proofs.read.read_f64.Statement.{statement}
 
-finite : (c : tie.After-bits) → c .bits .given .0 .0 < infinity binary64
+finite : (c : tie.After-bits) → (c .bits .given .0 .0 < 2 * top binary64) × (c .bits .given .0 .0 % top binary64 < infinity binary64)
 finite c = subst (AreFinite binary64) (c .bits .given .1) (c .before .before .text-bits .ensures .1)
 
 check-reading-requires : tie.Need-check-reading-requires
@@ -27,7 +27,7 @@ enum-known-bits : tie.Need-enum-known-bits
 enum-known-bits c = search needs
 
 float-from-bits-t13 : tie.Need-float-from-bits-t13
-float-from-bits-t13 c = tested-bits binary64 _ (omega (arith, finite (c .before)))
+float-from-bits-t13 c = tested-bits binary64 _ (le-of-lt (finite (c .before) .1))
 
 enum-known-refusal : tie.Need-enum-known-refusal
 enum-known-refusal c = search needs
