@@ -7,6 +7,10 @@ With `long` it prints a list of long texts at the top edge, apart since the prog
 
     python3 crates/vectors/edges.py long | diff - crates/vectors/data/top_edge_long.txt
 
+With `signs` it prints a list of texts with a sign:
+
+    python3 crates/vectors/edges.py signs | diff - crates/vectors/data/sign_edges.txt
+
 With the name of a list it says of how many of its lines it gives the answer again:
 
     python3 crates/vectors/edges.py crates/vectors/data/read.txt
@@ -42,11 +46,11 @@ def bad_byte(byte, radix):
 
 
 def shape(text, radix, exponent_radix, point, mark):
-    """The digits before and behind the point, sign and digits of the exponent; or the place where no text goes on so."""
+    """The sign, the digits before and behind the point, sign and digits of the exponent; or the place where no text goes on so. One "-" may lead: document 02, 2.3."""
     digit, exponent_digit = b"[%s]" % DIGITS[:radix], b"[%s]" % DIGITS[:exponent_radix]
     p, m = re.escape(bytes([point])), re.escape(bytes([mark]))
-    whole = re.compile(b"(%s+)(?:%s(%s*))?(?:%s([+-]?)(%s+))?" % (digit, p, digit, m, exponent_digit), re.DOTALL)
-    begun = re.compile(b"(?:%s+(?:%s%s*)?(?:%s[+-]?%s*)?)?" % (digit, p, digit, m, exponent_digit), re.DOTALL)
+    whole = re.compile(b"(-?)(%s+)(?:%s(%s*))?(?:%s([+-]?)(%s+))?" % (digit, p, digit, m, exponent_digit), re.DOTALL)
+    begun = re.compile(b"-?(?:%s+(?:%s%s*)?(?:%s[+-]?%s*)?)?" % (digit, p, digit, m, exponent_digit), re.DOTALL)
     found = whole.fullmatch(text)
     if found is None:
         return begun.match(text).end()
@@ -73,21 +77,19 @@ def top_edge(width):
 
 
 def nearest(width, value):
-    """The bits of the nearest float, ties to even."""
+    """The bits of the float nearest to a value below the top edge, ties to even."""
     stored, least, _ = WIDTHS[width]
-    if value >= top_edge(width):
-        return refused(11)
     if value == 0:
-        return "0"
+        return 0
     e = max(least, leading(value) - stored)
     m = round(value / power(e))  # a fraction is rounded half to even
     assert abs(value / power(e) - m) <= Fraction(1, 2)
     if m < 2**stored:
-        return f"{m:x}"
+        return m
     if m == 2 ** (stored + 1):
         m, e = 2**stored, e + 1
     biased = e - least + 1
-    return f"{biased * 2**stored + m - 2**stored:x}"
+    return biased * 2**stored + m - 2**stored
 
 
 def answer(width, text, radix, base, exponent_radix, point, mark):
@@ -102,13 +104,16 @@ def answer(width, text, radix, base, exponent_radix, point, mark):
     found = shape(text, radix, exponent_radix, point, mark)
     if isinstance(found, int):
         return refused(9, found)
-    whole, fraction, sign, digits = found
-    magnitude = value_of(digits, exponent_radix)
-    if magnitude > 32767:
+    sign, whole, fraction, exponent_sign, digits = found
+    exponent = value_of(digits, exponent_radix)
+    if exponent > 32767:
         return refused(10, len(text) - len(digits))
-    exponent = -magnitude if sign == b"-" else magnitude
-    mantissa = value_of(whole + fraction, radix)
-    return nearest(width, mantissa * Fraction(base) ** exponent / Fraction(radix) ** len(fraction))
+    power_of_base = Fraction(base) ** (-exponent if exponent_sign == b"-" else exponent)
+    magnitude = value_of(whole + fraction, radix) * power_of_base / Fraction(radix) ** len(fraction)
+    if magnitude >= top_edge(width):
+        return refused(11)
+    # the sign bit is set exactly when the text begins with "-", at zero too
+    return f"{nearest(width, magnitude) + len(sign) * 2 ** (width - 1):x}"
 
 
 # ---- texts
@@ -250,20 +255,53 @@ def long_texts(width):
     yield "1^" + "9" * 4095, (32, 32), 10
 
 
-def top_texts(width):
-    """In every pair the top edge in 4,096 bytes, and one more and one less in the last place: whole numbers in digits alone, or one digit before the point and an exponent behind the rest."""
+def top_texts(width, size=4096):
+    """In every pair the top edge in so many bytes, and one more and one less in the last place: whole numbers in digits alone, or one digit before the point and an exponent behind the rest."""
     edge = int(top_edge(width))
     for i, (pair, (b, c)) in enumerate(PAIRS.items()):
         exponent_radix = EXPONENT_RADICES[i % 6]
         first = (edge.bit_length() - 1) // b
         tail = "^" + numeral(first * b // c, exponent_radix)
-        places = 4096 - len("0.") - len(tail)
+        places = size - len("0.") - len(tail)
         for unit in (-1, 0, 1):
             if i % 2 == (width == 32):
-                yield numeral(edge + unit, pair[0]).rjust(4096, "0"), pair, exponent_radix
+                yield numeral(edge + unit, pair[0]).rjust(size, "0"), pair, exponent_radix
             else:
                 digits = numeral(edge * 2 ** (b * (places - first)) + unit, pair[0])
                 yield digits[0] + "." + digits[1:] + tail, pair, exponent_radix
+
+
+# ---- texts with a sign
+
+def sign_texts():
+    """Signs where a text has one, where it has none, and twice, in 16/2 with exponent radix 10."""
+    yield from ("-", "--", "---", "+", "-+", "+-", "-1", "+1", "--1", "---1", "-+1", "+-1", "++1", "+0", "-.5", "+.5", "-^5", "- 1", " -1", "-1-", "-1+", "1-", "0-", "1.-8", "-1.-8", "-1.8-", "-1.8^5-")
+    yield from ("-0", "-00", "-0.", "-0^5", "-0^-5", "-1.8", "-1.8^5", "-1.8^-5", "-1.8^+5", "-10.0^-4", "--0", "-x", "-1x", "-\xe2", "\xe2\x88\x921", "\x971", "-\0", "-\n", "-1\n")
+
+
+def signed(kinds):
+    """Behind "-" what would be the text."""
+    for text, *rest in kinds:
+        yield "-" + text, *rest
+
+
+def long_sign_texts(width):
+    """Texts of 4,096 and 4,097 bytes with the sign, the top edge in two pairs among them."""
+    for pair in ((2, 2), (16, 2), (32, 32)):
+        yield "-" + tie(width, pair).ljust(4094, "0") + "1", pair, 10
+    yield "-" + tie(width, (8, 8)).ljust(4095, "0"), (8, 8), 10
+    half = "-0." + "0" * -WIDTHS[width][1] + "1"
+    yield half.ljust(4095, "0") + "1", (2, 2), 10
+    yield half.ljust(4096, "0"), (2, 2), 10
+    yield "-0." + "0" * 4092 + "1", (32, 2), 10
+    yield "-" + "0" * 4095, (16, 4), 10
+    yield "-" + "0" * 4096, (16, 4), 10
+    yield "-1^-" + "9" * 4092, (8, 8), 10
+    yield "-1." + "0" * 4092 + "2", (2, 2), 10
+    yield "-1." + "0" * 4092 + "^", (16, 2), 10
+    yield "-" * 4096, (4, 4), 4
+    yield "-" * 4097, (4, 4), 4
+    yield from signed(list(top_texts(width, 4095))[:6])
 
 
 # ---- the list
@@ -294,6 +332,18 @@ def long_lines():
             yield line(width, text, *pair, exponent_radix, ".", "^")
 
 
+def sign_lines():
+    yield "# edges.py made this list: texts with a sign at the edges of reading, with answers computed from the documents alone, in whole numbers and fractions"
+    for width in WIDTHS:
+        for text in dict.fromkeys((*sign_texts(), *("-" + text for text in settled()))):
+            yield line(width, text, 16, 2, 10, ".", "^")
+        for kind in (byte_texts(), byte_formats(), unknown_formats(), edges(width)):
+            for case in signed(kind):
+                yield line(width, *case)
+        for text, pair, exponent_radix in long_sign_texts(width):
+            yield line(width, text, *pair, exponent_radix, ".", "^")
+
+
 def again(name):
     """Of how many lines of a list the reference gives the answer."""
     with open(name) as given:
@@ -306,7 +356,9 @@ def again(name):
     return f"{len(cases)} lines, {same} agree"
 
 
+LISTS = {"": lines, "long": long_lines, "signs": sign_lines}
+
 if __name__ == "__main__":
     name = sys.argv[1] if len(sys.argv) > 1 else ""
-    for row in long_lines() if name == "long" else [again(name)] if name else lines():
+    for row in LISTS[name]() if name in LISTS else [again(name)]:
         print(row)

@@ -1,5 +1,5 @@
 #!/usr/bin/env python3
-"""Prints the list `data/sheet_edges.txt`: tables and sheets at their edges, and what the documents answer to each, with `layout.py` of the program `examples` for texts and `edges.py` for floats, and with no code of this repository:
+"""Prints the list `data/sheet_edges.txt`: tables and sheets at their edges, and what the documents answer to each, with `layout.py` of the program `examples` for texts, `edges.py` for floats and `write_edges.py` for formats, and with no code of this repository:
 
     python3 crates/vectors/sheet_edges.py | diff - crates/vectors/data/sheet_edges.txt
 
@@ -18,8 +18,10 @@ sys.path.insert(0, os.path.join(os.path.dirname(os.path.abspath(__file__)), ".."
 import edges
 import layout
 from edges import PAIRS, refused
+from write_edges import NAMES, float_of, reading_checks, writing_checks
 
 INFINITY = 0x7FF0000000000000
+SIGN = 1 << 63
 
 
 class Refused(Exception):
@@ -34,24 +36,17 @@ def checked(refusals):
 
 # ---- formats
 
-def reading_checks(f):
-    radix = f.radix
-    yield 1, (radix, f.base) not in PAIRS
-    yield 2, f.exponent_radix not in edges.EXPONENT_RADICES
-    yield 3, edges.bad_byte(f.point, radix) or edges.bad_byte(f.mark, radix) or f.point == f.mark
-
-
 def sheet_checks(f):
-    yield 4, f.required and f.forbidden
-    yield 5, f.least > 1200 or f.most > 1200 or (f.least and f.most and f.least > f.most) or f.most != 0
-    yield 6, not -2000 <= (f.low or -5) <= -1 or not 1 <= (f.high or 9) <= 2000
-    yield 16, not 1 <= f.width <= 4
+    """5 for any digit limit too."""
+    for number, refuses in writing_checks(f):
+        yield number, refuses or (number == 5 and f.most != 0)
 
 
 # ---- table to sheet
 
 def value_of(bits):
-    return Fraction(struct.unpack("<d", struct.pack("<Q", bits))[0])
+    """Both zeros have one value, by which windows are compared: document 02, 2.3."""
+    return Fraction(float_of(64, bits))
 
 
 def to_sheet(f, table, room):
@@ -63,12 +58,12 @@ def to_sheet(f, table, room):
     numbers = struct.unpack(f"<{2 * count}Q", table[8:])
     rows = list(zip(numbers[:count], numbers[count:]))
     for i, (start, end) in enumerate(rows):
-        if start >= INFINITY or end >= INFINITY:
+        if start % SIGN >= INFINITY or end % SIGN >= INFINITY:
             raise Refused(7, i)
         if value_of(end) < value_of(start):
             raise Refused(14, i)
     b, c = PAIRS[f.radix, f.base]
-    lines = [" ".join(layout.text(value_of(bits), b, c, f) for bits in row) for row in rows]
+    lines = [" ".join(layout.float_text(float_of(64, bits), b, c, f) for bits in row) for row in rows]
     sheet = "".join(line + "\n" for line in [str(count)] + lines).encode("latin-1")
     if len(sheet) > room:
         raise Refused(8, 0)
@@ -117,7 +112,6 @@ def to_table(f, sheet, room):
 
 # ---- lines
 
-NAMES = "radix base exponent_radix required forbidden sign fraction point mark trim truncate least most low high width".split()
 PRINTED = dict(zip(NAMES, (16, 2, 10, 1, 0, 0, 0, 46, 112, 0, 0, 0, 0, 0, 0, 1)))
 
 
@@ -148,10 +142,11 @@ def table(count, size, *bits):
 ONE, ONE_AND_HALF = 0x3FF0000000000000, 0x3FF8000000000000
 
 
-def many(count):
-    """A table of so many windows, each a float of many digits and the next."""
-    starts = [0x41D9555555600000 + 0x0000012345678 * i + i for i in range(count)]
-    return table(count, 8 + 16 * count, *starts, *(bits + 1 for bits in starts))
+def many(count, sign=0):
+    """A table of so many windows, each a float of many digits and the next; with a sign the next one is below, and comes first."""
+    smaller = [sign + 0x41D9555555600000 + 0x0000012345678 * i + i for i in range(count)]
+    larger = [bits + 1 for bits in smaller]
+    return table(count, 8 + 16 * count, *(larger + smaller if sign else smaller + larger))
 
 
 def headers():
@@ -173,8 +168,8 @@ def headers():
 
 
 def rows():
-    bad = (INFINITY, INFINITY + 1, 0x7FFFFFFFFFFFFFFF, 1 << 63, ONE | 1 << 63, 0xFFF0000000000000, 0xFFFFFFFFFFFFFFFF)
-    for bits in bad:
+    special = INFINITY, INFINITY + 1, 0x7FFFFFFFFFFFFFFF, SIGN + INFINITY, SIGN + INFINITY + 1, 0xFFFFFFFFFFFFFFFF
+    for bits in special:
         yield table(1, 24, bits, ONE)
         yield table(1, 24, ONE, bits)
         yield table(3, 56, ONE, ONE, bits, ONE, ONE, ONE)
@@ -185,6 +180,43 @@ def rows():
     yield table(2, 40, ONE_AND_HALF, INFINITY, ONE, ONE)
     yield table(2, 40, ONE, ONE, ONE_AND_HALF, INFINITY)
     yield table(2, 40, 0, 1, 0x7FEFFFFFFFFFFFFF, 0x000FFFFFFFFFFFFF)
+    for bits in special:
+        yield table(1, 24, SIGN + ONE, bits)
+        yield table(1, 24, bits, SIGN + ONE)
+        yield table(2, 40, ONE, SIGN, SIGN + ONE, bits)
+
+
+# in ascending order by value, where the zeros are equal
+VALUES = SIGN + 0x7FEFFFFFFFFFFFFF, SIGN + ONE_AND_HALF, SIGN + ONE + 1, SIGN + ONE, SIGN + 1, SIGN, 0, 1, ONE, 0x7FEFFFFFFFFFFFFF
+
+
+def table_of(windows):
+    return table(len(windows), 8 + 16 * len(windows), *(start for start, _ in windows), *(end for _, end in windows))
+
+
+def signed_rows():
+    """Every two of these floats as a window, and all windows that pass in one table."""
+    windows = [(start, end) for start in VALUES for end in VALUES]
+    for window in windows:
+        yield table_of([window])
+    yield table_of([(start, end) for start, end in windows if value_of(start) <= value_of(end)])
+    yield table_of([(SIGN, 0), (SIGN + ONE, SIGN + ONE_AND_HALF)])
+    yield table_of([(SIGN + ONE, SIGN + ONE_AND_HALF), (SIGN + ONE_AND_HALF, SIGN + INFINITY)])
+
+
+def signed_sheets():
+    yield from (b"1\n-1 -1\n", b"1\n-2 -1\n", b"1\n-1 -2\n", b"1\n1 -1\n", b"2\n-2 -1\n-1 -1.1\n")
+    yield from (b"1\n0 -0\n", b"1\n-0 0\n", b"1\n-0 -0\n", b"1\n-0.0p0 1.8p0\n", b"1\n-1p-1074 -0\n", b"1\n-0 -1p-1074\n", b"1\n0 -1p-1074\n")
+    yield from (b"1\n-1p-1075 0\n", b"1\n0 -1p-1075\n", b"1\n-0 -1p-9999\n", b"1\n1 -1p-9999\n", b"1\n-3p-1075 -1p-1073\n", b"1\n-1.00000000000008 -1\n")
+    yield from (b"1\n- 1\n", b"1\n1 -\n", b"1\n- -\n", b"1\n-- 1\n", b"1\n--1 1\n", b"1\n1 --1\n", b"1\n+1 1\n", b"1\n1 +1\n", b"1\n-+1 1\n", b"1\n1 +-1\n")
+    yield from (b"1\n-x 1\n", b"1\n1 -x\n", b"1\n-1x 1\n", b"1\n-.5 1\n", b"1\n1 -.5\n", b"1\n-1p 1\n", b"1\n1 -1p-\n", b"1\n1- 1\n", b"1\n-1 1-\n", b"1\n -1 1\n", b"1\n- 1 1\n")
+    yield from (b"1\n-1p99999 x\n", b"1\n1 -1p-99999\n", b"1\n-1p2000 1\n", b"1\n1 -1p2000\n", b"1\n-1p2000 -1p2000\n", b"-0\n", b"-1\n1 1\n", b"-1\n-1 1\n")
+    for start in (b"-F.FFFFFFFFFFFF8p1020", b"-F.FFFFFFFFFFFF8Fp1020", b"-F.FFFFFFFFFFFFBFFFp1020", b"-F.FFFFFFFFFFFFCp1020"):
+        yield b"1\n" + start + b" 1.0p0\n"
+        yield b"1\n" + start + b" " + start + b"\n"
+    yield b"1\n-" + b"0" * 4095 + b" -" + b"0" * 4094 + b"1\n"
+    yield b"1\n-" + b"0" * 4096 + b" 1\n"
+    yield b"1\n1 -" + b"0" * 4095 + b"1\n"
 
 
 def sheets():
@@ -232,6 +264,28 @@ def lines():
     for room in (0, 7, 23, 24, 25):
         yield sheet_line(b"1\n1.0p0 1.8p0\n", room)
         yield sheet_line(b"1\nx", room)
+    yield from sign_lines()
+
+
+def sign_lines():
+    """Signs in rows and fields, in every pair, and in bytes just enough and one too few."""
+    for given in signed_rows():
+        yield table_line(given)
+    for given in signed_sheets():
+        yield sheet_line(given)
+    for k, (radix, base) in enumerate(PAIRS):
+        changed = dict(radix=radix, base=base, exponent_radix=edges.EXPONENT_RADICES[k % 6], mark=94, required=k % 2, trim=k // 2 % 2, least=k % 4, width=1 + k % 4)
+        yield from enough(table_of(list(zip(VALUES, VALUES[1:]))), **changed)
+    yield from enough(table_of([(SIGN, SIGN)]))
+    yield from enough(many(400, SIGN))
+
+
+def enough(given, **changed):
+    """A table in bytes just enough, and one too few; and its sheet."""
+    sheet = to_sheet(SimpleNamespace(**{**PRINTED, **changed}), given, 32768)
+    yield table_line(given, len(sheet), **changed)
+    yield table_line(given, len(sheet) - 1, **changed)
+    yield sheet_line(sheet, len(given), **changed)
 
 
 def again(name):

@@ -1,5 +1,5 @@
 #!/usr/bin/env python3
-"""Prints the list `data/width_edges.txt`: every width with every exponent radix where the digits of an exponent change, and what the documents answer, with `layout.py` of the program `examples`, `edges.py` beside it, and no code of this repository:
+"""Prints the list `data/width_edges.txt`: every width with every exponent radix where the digits of an exponent change, and what the documents answer, with `layout.py` of the program `examples`, `edges.py` and `write_edges.py` beside it, and no code of this repository:
 
     python3 crates/vectors/width_edges.py | diff - crates/vectors/data/width_edges.txt
 
@@ -8,42 +8,21 @@ With `digits` it prints the like of the digits call:
     python3 crates/vectors/width_edges.py digits | diff - crates/vectors/data/digit_edges.txt
 """
 import os
-import struct
 import sys
-from fractions import Fraction
-from types import SimpleNamespace
 
 sys.dont_write_bytecode = True
 sys.path.insert(0, os.path.join(os.path.dirname(os.path.abspath(__file__)), "..", "examples"))
 import layout
+import write_edges
 from edges import EXPONENT_RADICES, PAIRS, WIDTHS, refused
 
 WIDEST = 4
-NAMES = "radix base exponent_radix required forbidden sign fraction point mark trim truncate least most low high width".split()
-REQUIRED = dict(zip(NAMES, (16, 2, 10, 1, 0, 0, 0, 46, 94, 0, 0, 0, 0, 0, 0, 1)))
 
 
 # ---- writing, exponent required
 
-def bits_of(size, x):
-    whole, kind = {64: ("<Q", "<d"), 32: ("<I", "<f")}[size]
-    return struct.unpack(whole, struct.pack(kind, x))[0]
-
-
-def written(f, x):
-    """Of a format in which only 6 and 16 can refuse."""
-    if not -2000 <= (f.low or -5) <= -1:
-        return refused(6)
-    if not 1 <= f.width <= WIDEST:
-        return refused(16)
-    text = layout.text(Fraction(x), *PAIRS[f.radix, f.base], f)
-    return f"{len(text)} {text}"
-
-
 def writing_line(size, x, **changed):
-    fields = {**REQUIRED, **changed}
-    numbers = " ".join(str(fields[name]) for name in NAMES)
-    return f"{size} {bits_of(size, x):x} {numbers}\t{written(SimpleNamespace(**fields), x)}"
+    return write_edges.line(size, write_edges.bits_of(size, x), **{"required": 1, **changed})
 
 
 def changes(b, c, radix, places):

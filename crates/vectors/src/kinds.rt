@@ -1,4 +1,4 @@
-// What the fields of a line may be, a letter for each: `w` a width, `x` a finite float's bits with the sign clear, in hexadecimal, `f` a flag, `b` a byte, `n` a u32, `u` a u64, `i` an i32 but the least, and `t` a word, which is looked at where it is used.
+// What the fields of a line may be, a letter for each: `w` a width, `x` a float's bits in hexadecimal, `f` a flag, `b` a byte, `n` a u32, `u` a u64, `i` an i32 but the least, and `t` a word, which is looked at where it is used.
 use crate::fields;
 use crate::numbers;
 use crate::numbers::Number;
@@ -6,7 +6,7 @@ use crate::numbers::Number;
 fn is_within(kind: u8, value: u64) -> bool {
     match kind {
         b'w' => value == 64 || value == 32,
-        b'x' => value < 0x7ff0_0000_0000_0000,
+        b'x' => true,
         b'f' => value < 2,
         b'b' => value < 256,
         b'n' => value < 0x1_0000_0000,

@@ -44,27 +44,30 @@ fn filled() -> [u8; ROOM]
     [lent::FILL; ROOM]
 }
 
-// The float with these bits: a finite one with the sign clear, as every list has.
-fn f64_of(bits: u64) -> Float {
-    if bits >= 0x7ff0_0000_0000_0000 {
-        return Float::Malformed;
+// The float with these bits, any NaN where they are a NaN's.
+fn f64_of(bits: u64) -> f64 {
+    if bits % 0x8000_0000_0000_0000 > 0x7ff0_0000_0000_0000 {
+        return 0.0 / 0.0;
     }
-    Float::F64(f64::from_bits(bits))
+    f64::from_bits(bits)
 }
 
-fn f32_of(bits: u64) -> Float {
-    if bits >= 0x7f80_0000 {
-        return Float::Malformed;
+fn f32_of(bits: u32) -> f32 {
+    if bits % 0x8000_0000 > 0x7f80_0000 {
+        return 0.0 / 0.0;
     }
-    Float::F32(f32::from_bits(bits as u32))
+    f32::from_bits(bits)
 }
 
 fn float_of(input: &[u8]) -> Float {
     let bits = numbers::plain(input, BITS, true);
     if numbers::plain(input, WIDTH, false) == 64 {
-        return f64_of(bits);
+        return Float::F64(f64_of(bits));
     }
-    f32_of(bits)
+    if bits > 0xffff_ffff {
+        return Float::Malformed;
+    }
+    Float::F32(f32_of(bits as u32))
 }
 
 fn options_of(input: &[u8]) -> Options {
