@@ -1,5 +1,5 @@
 #!/usr/bin/env python3
-"""Prints what the program `examples` must write, from document 01 and IEEE 754, and with no code of this repository but `layout.py` beside it:
+"""Prints what the program `examples` must write, from the documents and IEEE 754, and with no code of this repository but `layout.py` beside it:
 
     python3 crates/examples/expected.py | diff - crates/examples/stdout
 """
@@ -86,8 +86,7 @@ def parts_line(width, bits):
     m = Fraction(abs(x)) / Fraction(2) ** e
     assert m.denominator == 1
     s = math.frexp(abs(x))[1] - 1 if x != 0 else 0
-    negative = math.copysign(1, x) < 0
-    return f"{width} {bits:x}: s {s}, {'-' if negative else ''}{m} * 2^{e}"
+    return f"{width} {bits:x}: s {s}, {'-' if layout.is_negative(x) else ''}{m} * 2^{e}"
 
 
 F64 = (
@@ -109,8 +108,8 @@ def float_lines():
 
 
 ORDER = (
-    0x7FF8000000000000, 0xFFF0000000000000, 0xFFEFFFFFFFFFFFFF, 0xBFF0000000000000, 0x8000000000000000,
-    0, 1, 2, 0x3FF0000000000000, 0x7FF0000000000000,
+    0x7FF8000000000000, 0xFFF0000000000000, 0xFFEFFFFFFFFFFFFF, 0xBFF0000000000000, 0x8000000000000002, 0x8000000000000001,
+    0x8000000000000000, 0, 1, 2, 0x3FF0000000000000, 0x7FF0000000000000,
 )
 
 
@@ -264,63 +263,73 @@ def label(case):
 def text_line(width, bits, case, room=4096):
     x = float_of(width, bits)
     number, text = case.writing(), ""
-    if not number and (not math.isfinite(x) or math.copysign(1, x) < 0):
+    if not number and not math.isfinite(x):
         number = 7
     if not number:
-        text = layout.text(Fraction(x), *PAIRS[case.radix, case.base], case)
+        text = layout.float_text(x, *PAIRS[case.radix, case.base], case)
         if len(text) > room:
             number, text = 8, ""
     answer = f"refused {number} at 0" if number else text if len(text) <= 100 else f"{len(text)} bytes"
     return f"{width} {bits:x} {label(case)} in {room}: {answer}, {4096 - len(text)} kept"
 
 
-def both(wide, narrow, case, room=4096):
-    yield text_line("f64", wide, case, room)
-    yield text_line("f32", narrow, case, room)
+def both(x, case):
+    for width in WIDTHS:
+        yield text_line(width, bits_of(width, x), case)
+
+
+def zeros(case):
+    for x in (0.0, -0.0):
+        yield from both(x, case)
 
 
 def at(radix, base, exponent_radix, **fields):
     return Case(radix=radix, base=base, exponent_radix=exponent_radix, **fields)
 
 
-def text_lines():
-    wide = {name: bits_of("f64", x) for name, x in (("2^-5", 2**-5), ("2^-6", 2**-6), ("8", 8), ("512", 512), ("1024", 1024))}
-    for name, case in (
-        ("2^-5", at(2, 2, 2)), ("2^-6", at(2, 2, 2)), ("512", at(16, 16, 16)),
-        ("1024", at(16, 16, 16)), ("1024", at(16, 16, 16, trim=True)), ("1024", at(16, 16, 16, sign=True)),
-        ("1024", at(16, 2, 10)), ("2^-6", at(16, 2, 10)), ("1024", at(16, 4, 10)),
+LEAST = 2.0**-1074
+LARGEST = {"f64": float_of("f64", F64[7]), "f32": float_of("f32", F32[7])}
+
+
+def worked_lines(sign):
+    for x, case in (
+        (2**-5, at(2, 2, 2)), (2**-6, at(2, 2, 2)), (512, at(16, 16, 16)),
+        (1024, at(16, 16, 16)), (1024, at(16, 16, 16, trim=True)), (1024, at(16, 16, 16, sign=True)),
+        (1024, at(16, 2, 10)), (2**-6, at(16, 2, 10)), (1024, at(16, 4, 10)),
+        (LEAST, at(32, 32, 10)), (512, at(32, 32, 10, trim=True)), (8, at(2, 2, 2, trim=True, least=5)), (8, at(2, 2, 2, least=5)),
     ):
-        yield text_line("f64", wide[name], case)
-    yield text_line("f64", 1, at(32, 32, 10))
-    yield text_line("f64", wide["512"], at(32, 32, 10, trim=True))
-    yield text_line("f64", wide["8"], at(2, 2, 2, trim=True, least=5))
-    yield text_line("f64", wide["8"], at(2, 2, 2, least=5))
-    yield text_line("f32", F32[7], at(16, 2, 10))
+        yield text_line("f64", bits_of("f64", sign * x), case)
+    yield text_line("f32", bits_of("f32", sign * LARGEST["f32"]), at(16, 2, 10))
+
+
+def limit_lines(sign):
+    for truncate in (False, True):
+        yield from both(sign * 1.5, at(16, 16, 16, most=1, truncate=truncate))
+    for x in (1.75, 1.25):
+        yield from both(sign * x, at(2, 2, 2, most=2))
+    for width, truncate in (("f64", False), ("f64", True), ("f32", False)):
+        yield text_line(width, bits_of(width, sign * LARGEST[width]), at(16, 2, 10, most=1, truncate=truncate))
+
+
+def text_lines():
+    for sign in (1, -1):
+        yield from worked_lines(sign)
     for flags in ({}, {"required": True}, {"required": True, "fraction": True}):
         for fields in ({}, {"least": 5}, {"least": 5, "trim": True}, {"trim": True}):
-            yield from both(0, 0, at(2, 2, 2, **flags, **fields))
-    yield from limit_lines()
-    for width in range(6):
-        for bits in (wide["1024"], wide["2^-6"], 1):
-            yield text_line("f64", bits, at(16, 2, 10, width=width))
-        yield from both(*ONE_AND_A_HALF, at(16, 2, 10, width=width))
-        yield from both(0, 0, at(16, 2, 10, required=True, sign=True, width=width))
-    for room in (4096, 2275, 2274):
-        yield text_line("f64", 1, at(2, 2, 2, forbidden=True, least=1200), room)
-    yield from refusal_lines()
-
-
-ONE_AND_A_HALF = F64[5], F32[5]
-
-
-def limit_lines():
+            yield from zeros(at(2, 2, 2, **flags, **fields))
+    for sign in (1, -1):
+        yield from limit_lines(sign)
     for truncate in (False, True):
-        yield from both(*ONE_AND_A_HALF, at(16, 16, 16, most=1, truncate=truncate))
-    for x in (1.75, 1.25):
-        yield from both(bits_of("f64", x), bits_of("f32", x), at(2, 2, 2, most=2))
-    yield text_line("f64", F64[7], at(16, 2, 10, most=1))
-    yield text_line("f64", F64[7], at(16, 2, 10, most=1, truncate=True))
-    yield text_line("f32", F32[7], at(16, 2, 10, most=1))
+        yield from zeros(at(16, 16, 16, most=1, truncate=truncate))
+    for width in range(6):
+        for x in (1024, 2**-6, LEAST):
+            yield text_line("f64", bits_of("f64", x), at(16, 2, 10, width=width))
+        yield from both(1.5, at(16, 2, 10, width=width))
+        yield from zeros(at(16, 2, 10, required=True, sign=True, width=width))
+    for x, rooms in ((LEAST, (4096, 2275, 2274)), (-LEAST, (4096, 2276, 2275))):
+        for room in rooms:
+            yield text_line("f64", bits_of("f64", x), at(2, 2, 2, forbidden=True, least=1200), room)
+    yield from refusal_lines()
 
 
 def refusal_lines():
@@ -331,17 +340,20 @@ def refusal_lines():
     cases += [Case(least=least, most=most) for least, most in ((1200, 0), (1201, 0), (0, 1201), (5, 4), (5, 5))]
     cases += [Case(low=low, high=high) for low, high in ((1, 0), (-2000, 0), (-2001, 0), (0, -1), (0, 2000), (0, 2001))]
     for case in cases:
-        yield from both(*ONE_AND_A_HALF, case)
+        yield from both(1.5, case)
+    yield from both(-1.5, Case())
     for width in WIDTHS:
-        for x in (-0.0, -1.5, math.inf, -math.inf, math.nan):
+        for x in (LARGEST[width], -LARGEST[width], math.inf, -math.inf, math.nan, -math.nan):
             yield text_line(width, bits_of(width, x), Case())
     for width in WIDTHS:
-        for room in (3, 2, 0):
-            yield text_line(width, bits_of(width, 0.5), at(16, 16, 16), room)
+        for x, enough in ((0.5, 3), (-0.5, 4), (-0.0, 4)):
+            for room in (enough, enough - 1, 1, 0):
+                yield text_line(width, bits_of(width, x), at(16, 16, 16), room)
     case = Case()
     for fields in ({}, *(fields for _, fields in FAULTS)):
         vars(case).update(fields)
-        yield from both(bits_of("f64", -1.5), bits_of("f32", -1.5), case, 0)
+        for width in WIDTHS:
+            yield text_line(width, bits_of(width, -math.inf), case, 0)
 
 
 for lines in (digit_lines, float_lines, order_lines, exponent_lines, format_lines, text_lines):

@@ -1,4 +1,5 @@
-"""The text of a value by document 01's "Digit limit" and "Layout" and document 02's 2.2, in whole numbers and fractions, for `expected.py`."""
+"""The text of a float by document 01's "Digit limit" and "Layout" and document 02's 2.2 and 2.3, in whole numbers and fractions, for `expected.py`."""
+import math
 from fractions import Fraction
 
 DIGITS = "0123456789ABCDEFGHIJKLMNOPQRSTUV"
@@ -64,3 +65,13 @@ def text(value, b, c, case):
     if case.trim:
         return whole
     return whole + point + "0" + zeros(len(D) + 1 if value else 1)
+
+
+def is_negative(x):
+    """Whether a float's sign bit is set, as minus zero has it too."""
+    return math.copysign(1, x) < 0
+
+
+def float_text(x, b, c, case):
+    """A set sign bit writes "-" before the text of the magnitude, which alone the digit limit sees."""
+    return ("-" if is_negative(x) else "") + text(abs(Fraction(x)), b, c, case)

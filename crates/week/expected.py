@@ -6,7 +6,6 @@
 import os
 import struct
 import sys
-from fractions import Fraction
 from types import SimpleNamespace
 
 sys.dont_write_bytecode = True
@@ -19,20 +18,20 @@ DEFAULT = dict(
 )
 
 
-def text(value, b, c, **changed):
-    return layout.text(value, b, c, SimpleNamespace(**{**DEFAULT, **changed}))
+def text(x, b, c, **changed):
+    return layout.float_text(x, b, c, SimpleNamespace(**{**DEFAULT, **changed}))
 
 
-def tuesday(value):
-    return text(value, 4, 1, mark=ord("p"), required=True)
+def tuesday(x):
+    return text(x, 4, 1, mark=ord("p"), required=True)
 
 
-def wednesday(value, width=1):
-    return text(value, 5, 5, width=width)
+def wednesday(x, width=1):
+    return text(x, 5, 5, width=width)
 
 
-def thursday(value):
-    return text(value, 1, 1, mark=ord("e"))
+def thursday(x):
+    return text(x, 1, 1, mark=ord("e"))
 
 
 F64 = (
@@ -45,34 +44,63 @@ F32 = (
 )
 
 
-def main():
-    for width, floats, whole, kind in (("f64", F64, "<Q", "<d"), ("f32", F32, "<I", "<f")):
+KINDS = {"f64": ("<Q", "<d", 1 << 63), "f32": ("<I", "<f", 1 << 31)}
+
+
+def float_of(width, bits):
+    whole, kind, _ = KINDS[width]
+    return struct.unpack(kind, struct.pack(whole, bits))[0]
+
+
+# texts that no float is written as, and the bits that they are read as: the largest float with a digit more, less than half a step above it; half the least float, a tie that zero takes; and three quarters of it
+SENT = (
+    ("f64", "F.FFFFFFFFFFFF8Fp1020", 0x7FEFFFFFFFFFFFFF), ("f64", "-F.FFFFFFFFFFFF8Fp1020", 0xFFEFFFFFFFFFFFFF),
+    ("f32", "F.FFFFF7p124", 0x7F7FFFFF), ("f32", "-F.FFFFF7p124", 0xFF7FFFFF),
+    ("f64", "1p-1075", 0), ("f64", "-1p-1075", 1 << 63), ("f64", "-3p-1076", (1 << 63) + 1),
+    ("f32", "1p-150", 0), ("f32", "-1p-150", 1 << 31), ("f32", "-3p-151", (1 << 31) + 1),
+)
+
+REFUSED = (
+    ("no text", "station 0, reading: refused 9 at 0"),
+    ("a wrong byte", "station 0, reading: refused 9 at 3"),
+    ("an exponent of 32,768", "station 0, reading: refused 10 at 3"),
+    ("too large", "station 0, reading: refused 11 at 0"),
+    ("a sign alone", "station 0, reading: refused 9 at 1"),
+    ("two signs", "station 0, reading: refused 9 at 1"),
+    ("a plus sign", "station 0, reading: refused 9 at 0"),
+    ("a wrong byte behind a sign", "station 0, reading: refused 9 at 4"),
+    ("a sign and an exponent of 32,768", "station 0, reading: refused 10 at 4"),
+    ("a sign, and too large", "station 0, reading: refused 11 at 0"),
+    ("1,201 digits", "station 0, writing: refused 5 at 0"),
+    ("width 0", "station 0, writing: refused 16 at 0"),
+    ("a record cut off behind its base", "station 2, writing: refused 2 at 0"),
+    ("a record cut off before its mark", "station 1, writing: refused 3 at 0"),
+    ("a buffer a byte too short", "station 1, writing: refused 8 at 0"),
+    ("a buffer without room for a sign", "station 1, writing: refused 8 at 0"),
+)
+
+
+def week_lines():
+    """Nothing is lost on the way, so that the bits read on Friday are Monday's."""
+    for width, floats in (("f64", F64), ("f32", F32)):
         for bits in floats:
-            value = Fraction(struct.unpack(kind, struct.pack(whole, bits))[0])
-            # nothing is lost on the way, so that the bits read on Friday are Monday's
-            print(f"{width} {bits:x}: {tuesday(value)} {thursday(value)} {bits:x}")
-    # the largest float with a digit more, less than half a step above it
-    for name, bits, value in (
-        ("f64 F.FFFFFFFFFFFF8Fp1020", 0x7FEFFFFFFFFFFFFF, (2**53 - 1) * 2**971),
-        ("f32 F.FFFFF7p124", 0x7F7FFFFF, (2**24 - 1) * 2**104),
-    ):
-        print(f"{name}: {thursday(Fraction(value))} {bits:x}")
+            for signed in (bits, bits + KINDS[width][2]):
+                x = float_of(width, signed)
+                yield f"{width} {signed:x}: {tuesday(x)} {thursday(x)} {signed:x}"
+    for width, sent, bits in SENT:
+        yield f"{width} {sent}: {thursday(float_of(width, bits))} {bits:x}"
+
+
+def chain_lines():
     # the first station and 100,000 more, Thursday's format and Wednesday's in turn
-    print(f"100001 stations: {wednesday(Fraction.from_float(float.fromhex('0x1.921FB54442D18p1')))}")
-    for name, last in (("width 4", wednesday(Fraction(1024), 4)), ("widths 4 and 1", thursday(Fraction(1024))), ("widths 4, 1 and 3", wednesday(Fraction(1024), 3))):
-        print(f"{name}: {last}")
-    for name, answer in (
-        ("no text", "station 0, reading: refused 9 at 0"),
-        ("a wrong byte", "station 0, reading: refused 9 at 3"),
-        ("an exponent of 32,768", "station 0, reading: refused 10 at 3"),
-        ("too large", "station 0, reading: refused 11 at 0"),
-        ("1,201 digits", "station 0, writing: refused 5 at 0"),
-        ("width 0", "station 0, writing: refused 16 at 0"),
-        ("a record cut off behind its base", "station 2, writing: refused 2 at 0"),
-        ("a record cut off before its mark", "station 1, writing: refused 3 at 0"),
-        ("a buffer a byte too short", "station 1, writing: refused 8 at 0"),
-    ):
-        print(f"{name}: {answer}, and every byte as it was")
+    x = float.fromhex("0x1.921FB54442D18p1")
+    for arrived in (x, -x, -0.0):
+        yield f"100001 stations: {wednesday(arrived)}"
+    for name, last in (("width 4", wednesday(1024.0, 4)), ("widths 4 and 1", thursday(1024.0)), ("widths 4, 1 and 3", wednesday(1024.0, 3))):
+        yield f"{name}: {last}"
+    for name, answer in REFUSED:
+        yield f"{name}: {answer}, and every byte as it was"
 
 
-main()
+for line in (*week_lines(), *chain_lines()):
+    print(line)

@@ -1,4 +1,4 @@
-// The order of floats by value: each of ten against each of them.
+// The order of floats by value: each of twelve against each of them.
 use crate::floats::f64_of;
 use crate::print;
 
@@ -10,7 +10,7 @@ fn less(x: u64, y: u64) {
     }
 }
 
-// `<bits> is below <ten answers, 1 or 0>`: a NaN, the infinities, the least float, -1, -0, 0, 2^-1074, 2^-1073, 1.
+// `<bits> is below <twelve answers, 1 or 0>`: a NaN, -infinity, the least float, -1, -2^-1073, -2^-1074, -0, 0, 2^-1074, 2^-1073, 1, infinity.
 fn less_line(x: u64) {
     print::hex(x);
     print::text(b" is below ");
@@ -18,6 +18,8 @@ fn less_line(x: u64) {
     less(x, 0xfff0_0000_0000_0000);
     less(x, 0xffef_ffff_ffff_ffff);
     less(x, 0xbff0_0000_0000_0000);
+    less(x, 0x8000_0000_0000_0002);
+    less(x, 0x8000_0000_0000_0001);
     less(x, 0x8000_0000_0000_0000);
     less(x, 0);
     less(x, 1);
@@ -32,6 +34,8 @@ pub(crate) fn run() {
     less_line(0xfff0_0000_0000_0000);
     less_line(0xffef_ffff_ffff_ffff);
     less_line(0xbff0_0000_0000_0000);
+    less_line(0x8000_0000_0000_0002);
+    less_line(0x8000_0000_0000_0001);
     less_line(0x8000_0000_0000_0000);
     less_line(0);
     less_line(1);

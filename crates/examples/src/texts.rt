@@ -1,5 +1,5 @@
 // Floats' texts and every refusal of the writing calls, at both widths.
-ghost use Prim.Native.Nat.{_≤_};
+ghost use Prim.Native.Nat.{_≤_, _<_};
 ghost use mathlib.Core.Path.{_≡_};
 ghost use lib.ListN.{length};
 use crate::floats;
@@ -174,9 +174,18 @@ fn both(f: NumberFormat, o: Options) {
     narrow(0x3fc0_0000, f, o);
 }
 
+// -1.5 at both widths.
+fn negative(f: NumberFormat, o: Options) {
+    wide(0xbff8_0000_0000_0000, f, o);
+    narrow(0xbfc0_0000, f, o);
+}
+
+// Zero and minus zero at both widths.
 fn zeros(f: NumberFormat, o: Options) {
     wide(0, f, o);
     narrow(0, f, o);
+    wide(0x8000_0000_0000_0000, f, o);
+    narrow(0x8000_0000, f, o);
 }
 
 fn format(radix: u32, base: u32, exponent_radix: u32) -> NumberFormat {
@@ -227,7 +236,32 @@ fn worked() {
     narrow(0x7f7f_ffff, format(16, 2, 10), o);
 }
 
-// Zero in the scientific and in the positive layout.
+// The same with the sign bit set.
+fn negatives() {
+    let o = formats::options();
+    let mut trim = o;
+    trim.trim_floats = true;
+    let mut sign = format(16, 16, 16);
+    sign.required_exponent_sign = true;
+    wide(0xbfa0_0000_0000_0000, format(2, 2, 2), o);
+    wide(0xbf90_0000_0000_0000, format(2, 2, 2), o);
+    wide(0xc080_0000_0000_0000, format(16, 16, 16), o);
+    wide(0xc090_0000_0000_0000, format(16, 16, 16), o);
+    wide(0xc090_0000_0000_0000, format(16, 16, 16), trim);
+    wide(0xc090_0000_0000_0000, sign, o);
+    wide(0xc090_0000_0000_0000, format(16, 2, 10), o);
+    wide(0xbf90_0000_0000_0000, format(16, 2, 10), o);
+    wide(0xc090_0000_0000_0000, format(16, 4, 10), o);
+    wide(0x8000_0000_0000_0001, format(32, 32, 10), o);
+    wide(0xc080_0000_0000_0000, format(32, 32, 10), trim);
+    trim.min_significant_digits = 5;
+    wide(0xc020_0000_0000_0000, format(2, 2, 2), trim);
+    trim.trim_floats = false;
+    wide(0xc020_0000_0000_0000, format(2, 2, 2), trim);
+    narrow(0xff7f_ffff, format(16, 2, 10), o);
+}
+
+// Both zeros in the scientific and in the positive layout.
 fn each_zero(f: NumberFormat) {
     let mut o = formats::options();
     zeros(f, o);
@@ -267,6 +301,27 @@ fn limits() {
     narrow(0x7f7f_ffff, mixed, one);
 }
 
+// The same with the sign bit set, where Truncate goes towards zero and not down; and minus zero, which no limit changes.
+fn negative_limits() {
+    let hex = format(16, 16, 16);
+    let binary = format(2, 2, 2);
+    let mixed = format(16, 2, 10);
+    let one = limited(1, RoundMode::Round);
+    let two = limited(2, RoundMode::Round);
+    let cut = limited(1, RoundMode::Truncate);
+    negative(hex, one);
+    negative(hex, cut);
+    wide(0xbffc_0000_0000_0000, binary, two);
+    narrow(0xbfe0_0000, binary, two);
+    wide(0xbff4_0000_0000_0000, binary, two);
+    narrow(0xbfa0_0000, binary, two);
+    wide(0xffef_ffff_ffff_ffff, mixed, one);
+    wide(0xffef_ffff_ffff_ffff, mixed, cut);
+    narrow(0xff7f_ffff, mixed, one);
+    zeros(hex, one);
+    zeros(hex, cut);
+}
+
 // 1,024 and 2^-6, whose exponents have one digit, and the least float, whose exponent has more; an exponent of zero; and a text without one.
 fn width(width: u32) {
     let mut o = formats::options();
@@ -281,15 +336,18 @@ fn width(width: u32) {
     zeros(f, o);
 }
 
-// 2^-1074 in radix 2 without an exponent and with 1,200 digits, which no other text passes, and bytes too few for it.
+// 2^-1074 in radix 2 without an exponent and with 1,200 digits, and with the sign bit set, which no other text passes; and bytes too few for each.
 fn longest() {
     let mut f = format(2, 2, 2);
     f.no_exponent_notation = true;
     let mut o = formats::options();
     o.min_significant_digits = 1200;
     line(true, 1, f, o, ROOM);
-    line(true, 1, f, o, LONGEST_TEXT);
     line(true, 1, f, o, LONGEST_TEXT - 1);
+    line(true, 1, f, o, LONGEST_TEXT - 2);
+    line(true, 0x8000_0000_0000_0001, f, o, ROOM);
+    line(true, 0x8000_0000_0000_0001, f, o, LONGEST_TEXT);
+    line(true, 0x8000_0000_0000_0001, f, o, LONGEST_TEXT - 1);
 }
 
 fn refused_bytes(point: u8, mark: u8) {
@@ -346,35 +404,48 @@ fn refused_options() {
     breaks(0, 2001);
 }
 
-// 7: -0, -1.5, infinities, a NaN.
+// 7: infinities and NaNs, and not -1.5, the largest float or the least one.
 fn refused_floats() {
     let f = formats::format();
     let o = formats::options();
-    wide(0x8000_0000_0000_0000, f, o);
-    wide(0xbff8_0000_0000_0000, f, o);
+    negative(f, o);
+    wide(0x7fef_ffff_ffff_ffff, f, o);
+    wide(0xffef_ffff_ffff_ffff, f, o);
     wide(0x7ff0_0000_0000_0000, f, o);
     wide(0xfff0_0000_0000_0000, f, o);
     wide(0x7ff8_0000_0000_0000, f, o);
-    narrow(0x8000_0000, f, o);
-    narrow(0xbfc0_0000, f, o);
+    wide(0xfff8_0000_0000_0000, f, o);
+    narrow(0x7f7f_ffff, f, o);
+    narrow(0xff7f_ffff, f, o);
     narrow(0x7f80_0000, f, o);
     narrow(0xff80_0000, f, o);
     narrow(0x7fc0_0000, f, o);
+    narrow(0xffc0_0000, f, o);
 }
 
-// 8: 0.5 in bytes enough, one too few, and none.
-fn refused_rooms() {
+// 8: bytes enough for a text with its sign, one too few, one, and none.
+fn rooms(is_wide: bool, bits: u64, enough: usize)
+    requires { ⌜ 0 < enough ⌝ }
+{
     let f = format(16, 16, 16);
     let o = formats::options();
-    line(true, 0x3fe0_0000_0000_0000, f, o, 3);
-    line(true, 0x3fe0_0000_0000_0000, f, o, 2);
-    line(true, 0x3fe0_0000_0000_0000, f, o, 0);
-    line(false, 0x3f00_0000, f, o, 3);
-    line(false, 0x3f00_0000, f, o, 2);
-    line(false, 0x3f00_0000, f, o, 0);
+    line(is_wide, bits, f, o, enough);
+    line(is_wide, bits, f, o, enough - 1);
+    line(is_wide, bits, f, o, 1);
+    line(is_wide, bits, f, o, 0);
 }
 
-// A negative number in no bytes, under a format with one fault more each time.
+// 0.5, -0.5 and -0.
+fn refused_rooms() {
+    rooms(true, 0x3fe0_0000_0000_0000, 3);
+    rooms(true, 0xbfe0_0000_0000_0000, 4);
+    rooms(true, 0x8000_0000_0000_0000, 4);
+    rooms(false, 0x3f00_0000, 3);
+    rooms(false, 0xbf00_0000, 4);
+    rooms(false, 0x8000_0000, 4);
+}
+
+// The negative infinity in no bytes, under a format with one fault more each time.
 fn refused_first() {
     let mut f = formats::format();
     let mut o = formats::options();
@@ -397,14 +468,16 @@ fn refused_first() {
 }
 
 fn nowhere(f: NumberFormat, o: Options) {
-    line(true, 0xbff8_0000_0000_0000, f, o, 0);
-    line(false, 0xbfc0_0000, f, o, 0);
+    line(true, 0xfff0_0000_0000_0000, f, o, 0);
+    line(false, 0xff80_0000, f, o, 0);
 }
 
 pub(crate) fn run() {
     worked();
+    negatives();
     zero();
     limits();
+    negative_limits();
     width(0);
     width(1);
     width(2);

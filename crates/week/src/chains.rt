@@ -1,4 +1,4 @@
-// A chain of 100,001 stations, one whose stations have exponents of three widths, and chains that are refused, each with the station, and with what the lent bytes hold then.
+// Chains of 100,001 stations, one whose stations have exponents of three widths, and chains that are refused, each with the station, and with what the lent bytes hold then.
 ghost use Prim.Native.Nat.{_≤_, _<_};
 use crate::floats;
 use crate::formats;
@@ -44,16 +44,22 @@ fn print_kept(out: &[u8]) {
     print::text(b", and every byte as it was");
 }
 
-fn long() {
-    let mut records = space();
-    fill(&mut records);
+fn long_chain(text: &[u8], records: &[u8]) {
     let mut out = floats::room();
     let first = formats::wednesday();
-    let text = b"1.921FB54442D18p1";
-    let answer = chain_f64(text, formats::tuesday(), first, &records, &mut out);
+    let answer = chain_f64(text, formats::tuesday(), first, records, &mut out);
     print::text(b"100001 stations: ");
     print::chained(answer, &out);
     print::text(b"\n");
+}
+
+// A text, the same with a sign, and minus zero's.
+fn long() {
+    let mut records = space();
+    fill(&mut records);
+    long_chain(b"1.921FB54442D18p1", &records);
+    long_chain(b"-1.921FB54442D18p1", &records);
+    long_chain(b"-0.0p0", &records);
 }
 
 // The text of 1,024, read under a format of width 0, which a reading ignores.
@@ -93,6 +99,22 @@ fn refused_texts(first: TextFormat, records: &[u8], out: &mut [u8]) {
     refused(b"too large", b"1p1024", first, records, out);
 }
 
+// A text that is refused for its signs.
+fn refused_signs(first: TextFormat, records: &[u8], out: &mut [u8]) {
+    refused(b"a sign alone", b"-", first, records, out);
+    refused(b"two signs", b"--1", first, records, out);
+    refused(b"a plus sign", b"+1", first, records, out);
+}
+
+// A text that is refused behind its sign.
+fn refused_magnitudes(first: TextFormat, records: &[u8], out: &mut [u8]) {
+    let wrong = b"a wrong byte behind a sign";
+    refused(wrong, b"-1.8q0", first, records, out);
+    let exponent = b"a sign and an exponent of 32,768";
+    refused(exponent, b"-1p+32768", first, records, out);
+    refused(b"a sign, and too large", b"-1p1024", first, records, out);
+}
+
 // The text 1.8p0 and a first station whose format is refused.
 fn refused_formats(first: TextFormat, records: &[u8], out: &mut [u8]) {
     let limited = formats::limited(1201);
@@ -109,12 +131,28 @@ fn refused_records(name: &[u8], first: TextFormat, count: usize, out: &mut [u8])
     refused(name, b"1.8p0", first, &records[0..count], out);
 }
 
+// A buffer for the text without its sign.
+fn refused_room(first: TextFormat) {
+    let records = formats::RECORDS;
+    let further = &records[0..RECORD_SIZE];
+    let mut out = [0; 3];
+    refused(
+        b"a buffer without room for a sign",
+        b"-1.8p0",
+        first,
+        further,
+        &mut out,
+    );
+}
+
 pub(crate) fn run() {
     long();
     widths();
     let first = formats::wednesday();
     let mut out = floats::room();
     refused_texts(first, &formats::RECORDS, &mut out);
+    refused_signs(first, &formats::RECORDS, &mut out);
+    refused_magnitudes(first, &formats::RECORDS, &mut out);
     refused_formats(first, &formats::RECORDS, &mut out);
     refused_records(
         b"a record cut off behind its base",
@@ -134,4 +172,5 @@ pub(crate) fn run() {
         RECORD_SIZE,
         &mut out[0..2],
     );
+    refused_room(first);
 }

@@ -20,17 +20,17 @@ pub(crate) fn room() -> [u8; ROOM] {
     [0; ROOM]
 }
 
-// Zero for bits that are no finite float's; none of the list is.
+// Any NaN where the bits are a NaN's; none of the list are.
 fn f64_of(bits: u64) -> f64 {
-    if bits >= 0x7ff0_0000_0000_0000 {
-        return 0.0;
+    if bits % 0x8000_0000_0000_0000 > 0x7ff0_0000_0000_0000 {
+        return 0.0 / 0.0;
     }
     f64::from_bits(bits)
 }
 
 fn f32_of(bits: u32) -> f32 {
-    if bits >= 0x7f80_0000 {
-        return 0.0;
+    if bits % 0x8000_0000 > 0x7f80_0000 {
+        return 0.0 / 0.0;
     }
     f32::from_bits(bits)
 }
@@ -171,8 +171,19 @@ fn week_f32(bits: u32) {
     print::text(b"\n");
 }
 
-// A "never" end that a station wrote as the largest float with a digit more: every later text is the largest float's.
-fn never_f64(text: &[u8]) {
+// The float, and the one with its sign bit set.
+fn both_f64(bits: u64) {
+    week_f64(bits);
+    week_f64(bits | 0x8000_0000_0000_0000);
+}
+
+fn both_f32(bits: u32) {
+    week_f32(bits);
+    week_f32(bits | 0x8000_0000);
+}
+
+// A text that no float is written as, from Wednesday on.
+fn sent_f64(text: &[u8]) {
     print::text(b"f64 ");
     print::text(text);
     print::text(b": ");
@@ -180,7 +191,7 @@ fn never_f64(text: &[u8]) {
     print::text(b"\n");
 }
 
-fn never_f32(text: &[u8]) {
+fn sent_f32(text: &[u8]) {
     print::text(b"f32 ");
     print::text(text);
     print::text(b": ");
@@ -228,7 +239,7 @@ fn run_f64() {
     let list = F64;
     let mut i = 0;
     while i < 18 {
-        week_f64(list[i]);
+        both_f64(list[i]);
         i += 1;
     }
 }
@@ -237,14 +248,32 @@ fn run_f32() {
     let list = F32;
     let mut i = 0;
     while i < 12 {
-        week_f32(list[i]);
+        both_f32(list[i]);
         i += 1;
     }
+}
+
+// A "never" end that a station wrote as the largest float with a digit more, and the like with a sign: every later text is that float's.
+fn nevers() {
+    sent_f64(b"F.FFFFFFFFFFFF8Fp1020");
+    sent_f64(b"-F.FFFFFFFFFFFF8Fp1020");
+    sent_f32(b"F.FFFFF7p124");
+    sent_f32(b"-F.FFFFF7p124");
+}
+
+// A magnitude of half the least float rounds to zero, which keeps its sign; one of three quarters does not.
+fn vanishing() {
+    sent_f64(b"1p-1075");
+    sent_f64(b"-1p-1075");
+    sent_f64(b"-3p-1076");
+    sent_f32(b"1p-150");
+    sent_f32(b"-1p-150");
+    sent_f32(b"-3p-151");
 }
 
 pub(crate) fn run() {
     run_f64();
     run_f32();
-    never_f64(b"F.FFFFFFFFFFFF8Fp1020");
-    never_f32(b"F.FFFFF7p124");
+    nevers();
+    vanishing();
 }
