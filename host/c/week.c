@@ -1,4 +1,4 @@
-/* A table of one window through the week: 16/2 on Tuesday, 32/32 on Wednesday, 2/2 on Thursday, and
+/* A table of two windows through the week: 16/2 on Tuesday, 32/32 on Wednesday, 2/2 on Thursday, and
  * back into a table on Friday. Then one number along the same way, as a chain. */
 #include <inttypes.h>
 #include <stdio.h>
@@ -34,19 +34,20 @@ static void put_word(uint8_t *bytes, uint64_t word, int count) {
 }
 
 int main(void) {
-    /* Monday: a count, a length, the starts and the ends. */
-    const double start = 1.0, end = 1.5;
-    uint64_t start_bits, end_bits;
-    memcpy(&start_bits, &start, sizeof start);
-    memcpy(&end_bits, &end, sizeof end);
-    uint8_t monday[24];
-    put_word(monday, 1, 4);
+    /* Monday: a count, a length, the starts and the ends. The second window lies before second zero
+     * and ends at minus zero, which comes back as that, and not as zero. */
+    const double floats[4] = {1.0, -1.5, 1.5, -0.0};
+    uint8_t monday[40];
+    put_word(monday, 2, 4);
     put_word(monday + 4, sizeof monday, 4);
-    put_word(monday + 8, start_bits, 8);
-    put_word(monday + 16, end_bits, 8);
+    for (int i = 0; i < 4; i++) {
+        uint64_t bits;
+        memcpy(&bits, &floats[i], sizeof bits);
+        put_word(monday + 8 + 8 * i, bits, 8);
+    }
 
     const lexical_format days[3] = {format(16, 2), format(32, 32), format(2, 2)};
-    uint8_t table[24];
+    uint8_t table[40];
     memcpy(table, monday, sizeof table);
     static uint8_t sheet[OUTAGE_LONGEST_SHEET];
     for (int day = 0; day < 3; day++) {
@@ -60,7 +61,7 @@ int main(void) {
     uint8_t further[2 * LEXICAL_RECORD];
     lexical_format_record(days[1], further);
     lexical_format_record(days[2], further + LEXICAL_RECORD);
-    const uint8_t text[] = "1.8p0";
+    const uint8_t text[] = "-1.8p0";
     uint8_t buffer[LEXICAL_LONGEST_TEXT];
     const lexical_station_answer arrived =
         lexical_chain_f64(text, sizeof text - 1, days[0], days[0], further, sizeof further,

@@ -28,7 +28,7 @@ extern "C" {
 #endif
 
 /* Room for any text, sheet, and table; a longer text is not read. */
-#define LEXICAL_LONGEST_TEXT 2275
+#define LEXICAL_LONGEST_TEXT 2276
 #define LEXICAL_LONGEST_READ 4096
 #define OUTAGE_MOST_WINDOWS 400
 #define OUTAGE_LONGEST_SHEET (4 + OUTAGE_MOST_WINDOWS * 2 * (LEXICAL_LONGEST_TEXT + 1))
@@ -41,7 +41,7 @@ typedef struct {
     bool no_exponent_notation;
     bool required_exponent_sign;
     bool no_exponent_without_fraction;
-    bool truncate;         /* the round mode of a digit limit: false rounds to the nearest */
+    bool truncate;         /* a digit limit cuts off, toward zero; false rounds to the nearest */
     bool trim_floats;
     uint8_t exponent;      /* the mark in front of an exponent */
     uint8_t decimal_point;
@@ -90,11 +90,14 @@ typedef struct {
 lexical_answer lexical_write_integer(uint64_t value, uint32_t radix, uint32_t width,
                                      uint8_t *buffer, size_t length);
 
-/* The text of a float. */
+/* The text of a float: "-" where its sign bit is set, minus zero's too, and the text of its magnitude.
+ * Only an infinity or a NaN has none, which is refusal 7. */
 lexical_answer lexical_write_f64(double x, lexical_format format, uint8_t *buffer, size_t length);
 lexical_answer lexical_write_f32(float x, lexical_format format, uint8_t *buffer, size_t length);
 
-/* The float nearest to a text's value, ties to even. */
+/* The float nearest to a text's value, ties to even. One "-" may stand in front, and no "+". The float's
+ * sign bit is set exactly where a "-" does: "-0.0" is minus zero, and so is a text behind "-" whose value
+ * rounds to zero. C's == takes the two zeros for equal; signbit tells them apart. */
 lexical_answer_f64 lexical_read_f64(const uint8_t *text, size_t text_length, lexical_format format);
 lexical_answer_f32 lexical_read_f32(const uint8_t *text, size_t text_length, lexical_format format);
 
@@ -117,7 +120,8 @@ lexical_station_answer lexical_chain_f32(const uint8_t *text, size_t text_length
                                          const uint8_t *further, size_t further_length,
                                          uint8_t *buffer, size_t length);
 
-/* The sheet of an outage table, and the table of a sheet. */
+/* The sheet of an outage table, and the table of a sheet. A window may lie before second zero. Its end is
+ * held against its start by value, so one from zero to minus zero is taken, and both signs come back. */
 lexical_answer outage_table_to_sheet(const uint8_t *table, size_t table_length,
                                      lexical_format format, uint8_t *sheet, size_t length);
 lexical_answer outage_sheet_to_table(const uint8_t *sheet, size_t sheet_length,

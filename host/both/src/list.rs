@@ -43,6 +43,16 @@ pub struct Sheet {
     pub answer: Result<Vec<u8>, Refusal>,
 }
 
+/// The lists of texts to be read.
+pub const READ: [&str; 6] = [
+    "read.txt",
+    "edges.txt",
+    "top_edge.txt",
+    "top_edge_long.txt",
+    "signs_read.txt",
+    "sign_edges.txt",
+];
+
 fn number<T: FromStr<Err: Debug>>(field: &str) -> T {
     field.parse().unwrap_or_else(|error| panic!("{field:?}: {error:?}"))
 }

@@ -34,21 +34,31 @@ fn octal() -> Format {
     Format { required_exponent_notation: true, ..Format::new(8, 2, 10, b'^') }
 }
 
-// Bits and text of floats, each above the one before it: 0, 2^-1074, 2^-1073, the largest denormal,
-// 2^-1022, 1.
-const FLOATS: [(u64, &str); 6] = [
-    (0, "0.0p0"),
-    (1, "4.0p-1076"),
-    (2, "8.0p-1076"),
-    (0xf_ffff_ffff_ffff, "3.FFFFFFFFFFFFCp-1024"),
-    (0x10_0000_0000_0000, "4.0p-1024"),
-    (0x3ff0_0000_0000_0000, "1.0p0"),
+// The sign bit.
+const MINUS: u64 = 1 << 63;
+const NARROW_MINUS: u32 = 1 << 31;
+
+// Rank, bits and text of floats of both signs: 0, 2^-1074, 2^-1073, the largest denormal, 2^-1022, 1.
+// The ranks are ordered as the values are, so the two zeros have one.
+const FLOATS: [(i32, u64, &str); 12] = [
+    (-5, MINUS | 0x3ff0_0000_0000_0000, "-1.0p0"),
+    (-4, MINUS | 0x10_0000_0000_0000, "-4.0p-1024"),
+    (-3, MINUS | 0xf_ffff_ffff_ffff, "-3.FFFFFFFFFFFFCp-1024"),
+    (-2, MINUS | 2, "-8.0p-1076"),
+    (-1, MINUS | 1, "-4.0p-1076"),
+    (0, MINUS, "-0.0p0"),
+    (0, 0, "0.0p0"),
+    (1, 1, "4.0p-1076"),
+    (2, 2, "8.0p-1076"),
+    (3, 0xf_ffff_ffff_ffff, "3.FFFFFFFFFFFFCp-1024"),
+    (4, 0x10_0000_0000_0000, "4.0p-1024"),
+    (5, 0x3ff0_0000_0000_0000, "1.0p0"),
 ];
 
 fn denormal_windows<T: Calls>() {
-    for (i, (start, start_text)) in FLOATS.iter().enumerate() {
-        for (end, end_text) in &FLOATS[i..] {
-            let table = table(*start, *end);
+    for (rank, start, start_text) in FLOATS {
+        for (_, end, end_text) in FLOATS.into_iter().filter(|float| float.0 >= rank) {
+            let table = table(start, end);
             let sheet = format!("1\n{start_text} {end_text}\n").into_bytes();
             expect_text(&sheet, 9, SHORT, |b| T::table_to_sheet(&table, &hex(), b));
             expect_text(&table, 9, SHORT, |b| T::sheet_to_table(&sheet, &hex(), b));
@@ -57,12 +67,12 @@ fn denormal_windows<T: Calls>() {
 }
 
 fn windows_that_end_early<T: Calls>() {
-    for (i, (start, start_text)) in FLOATS.iter().enumerate() {
-        for (end, end_text) in &FLOATS[..i] {
+    for (rank, start, start_text) in FLOATS {
+        for (_, end, end_text) in FLOATS.into_iter().filter(|float| float.0 < rank) {
             // the row's index in a table, and where its line begins in a sheet
             let refused = |place| Err(Refusal { number: 14, place });
             let sheet = format!("1\n{start_text} {end_text}\n").into_bytes();
-            expect(90, refused(0), |b| T::table_to_sheet(&table(*start, *end), &hex(), b));
+            expect(90, refused(0), |b| T::table_to_sheet(&table(start, end), &hex(), b));
             expect(90, refused(2), |b| T::sheet_to_table(&sheet, &hex(), b));
         }
     }
@@ -72,10 +82,12 @@ fn denormal_texts<T: Calls>() {
     let short = |station| StationRefusal { station, step: Step::Writing, refusal: SHORT };
     let back = [hex().record()];
     // bits, and the text in `hex` and in `octal`
-    let wide: [(u64, &[u8], &[u8]); 3] = [
+    let wide: [(u64, &[u8], &[u8]); 5] = [
         (1, b"4.0p-1076", b"1.0^-1074"),
         (2, b"8.0p-1076", b"2.0^-1074"),
         (3, b"C.0p-1076", b"3.0^-1074"),
+        (MINUS | 1, b"-4.0p-1076", b"-1.0^-1074"),
+        (MINUS | 3, b"-C.0p-1076", b"-3.0^-1074"),
     ];
     for (bits, text, other) in wide {
         let x = f64::from_bits(bits);
@@ -84,10 +96,12 @@ fn denormal_texts<T: Calls>() {
         expect_text(other, 9, short(0), |b| T::rewrite_f64(text, &hex(), &octal(), b));
         expect_text(text, 9, short(1), |b| T::chain_f64(text, &hex(), &octal(), &back, b));
     }
-    let narrow: [(u32, &[u8], &[u8]); 3] = [
+    let narrow: [(u32, &[u8], &[u8]); 5] = [
         (1, b"8.0p-152", b"2.0^-150"),
         (2, b"1.0p-148", b"4.0^-150"),
         (3, b"1.8p-148", b"6.0^-150"),
+        (NARROW_MINUS | 1, b"-8.0p-152", b"-2.0^-150"),
+        (NARROW_MINUS | 3, b"-1.8p-148", b"-6.0^-150"),
     ];
     for (bits, text, other) in narrow {
         let x = f32::from_bits(bits);
@@ -98,7 +112,8 @@ fn denormal_texts<T: Calls>() {
     }
 }
 
-/// Texts halfway between two floats, and just above: the even one of the two, and the upper one.
+/// Texts halfway between two floats, and just above: the even one of the two, and the upper one. Behind
+/// "-" it is the same of the magnitude, also where that is zero.
 fn ties<T: Calls>() {
     let wide: [(&[u8], u64); 8] = [
         (b"2.0p-1076", 0),
@@ -112,6 +127,8 @@ fn ties<T: Calls>() {
     ];
     for (text, bits) in wide {
         assert_eq!(T::read_f64(text, &hex()).map(f64::to_bits), Ok(bits));
+        let text = [b"-", text].concat();
+        assert_eq!(T::read_f64(&text, &hex()).map(f64::to_bits), Ok(MINUS | bits));
     }
     let narrow: [(&[u8], u32); 6] = [
         (b"4.0p-152", 0),
@@ -123,5 +140,7 @@ fn ties<T: Calls>() {
     ];
     for (text, bits) in narrow {
         assert_eq!(T::read_f32(text, &hex()).map(f32::to_bits), Ok(bits));
+        let text = [b"-", text].concat();
+        assert_eq!(T::read_f32(&text, &hex()).map(f32::to_bits), Ok(NARROW_MINUS | bits));
     }
 }

@@ -71,8 +71,16 @@ fn write<T: Calls>(width: u32, bits: u64, format: &Format, b: &mut [u8]) -> both
     }
 }
 
-const WRITTEN: [&str; 6] =
-    ["write.txt", "rust.txt", "limit2.txt", "limit_ref.txt", "widths.txt", "width_edges.txt"];
+const WRITTEN: [&str; 8] = [
+    "write.txt",
+    "rust.txt",
+    "limit2.txt",
+    "limit_ref.txt",
+    "widths.txt",
+    "width_edges.txt",
+    "signs_write.txt",
+    "write_edges.txt",
+];
 
 fn writing<T: Calls>() {
     for file in WRITTEN {
@@ -93,27 +101,30 @@ fn writing_into_nothing<T: Calls>() {
     expect(0, Err(SHORT), |b| T::write_f64(0.0, &format, b));
     expect(2, Err(SHORT), |b| T::write_f64(0.0, &format, b));
     expect(3, Ok(b"0.0"), |b| T::write_f64(0.0, &format, b));
-    let refused = Refusal { number: 7, place: 0 };
-    for x in [-0.0, -1.5, f64::INFINITY, f64::NEG_INFINITY, f64::NAN, -f64::NAN] {
-        expect(64, Err(refused), |b| T::write_f64(x, &format, b));
-        expect(64, Err(refused), |b| T::write_f32(x as f32, &format, b));
-        // the format is checked first
-        let unknown = Format::new(16, 8, 10, b'^');
-        expect(64, Err(Refusal { number: 1, place: 0 }), |b| T::write_f64(x, &unknown, b));
+    // one byte has room for the "-", and must not hold it
+    for room in 0..4 {
+        expect(room, Err(SHORT), |b| T::write_f64(-0.0, &format, b));
+        expect(room, Err(SHORT), |b| T::write_f32(-0.0, &format, b));
     }
+    expect(4, Ok(b"-0.0"), |b| T::write_f64(-0.0, &format, b));
+    expect(4, Ok(b"-0.0"), |b| T::write_f32(-0.0, &format, b));
 }
 
+/// The least denormal with 1,200 digits, and its negative, which is one byte longer.
 fn longest_text<T: Calls>() {
     let format = Format {
         no_exponent_notation: true,
         min_significant_digits: 1200,
         ..Format::new(2, 2, 10, b'^')
     };
-    let mut text = b"0.".to_vec();
-    text.resize(2 + 1073, b'0');
+    let mut text = b"-0.".to_vec();
+    text.resize(3 + 1073, b'0');
     text.push(b'1');
-    text.resize(LONGEST_TEXT, b'0');
-    expect_text(&text, 100, SHORT, |b| T::write_f64(f64::from_bits(1), &format, b));
+    text.resize(3 + 1073 + 1200, b'0');
+    assert_eq!(text.len(), LONGEST_TEXT);
+    let least = f64::from_bits(1);
+    expect_text(&text, 100, SHORT, |b| T::write_f64(-least, &format, b));
+    expect_text(&text[1..], 100, SHORT, |b| T::write_f64(least, &format, b));
 }
 
 fn read<T: Calls>(width: u32, text: &[u8], format: &Format) -> Result<u64, Refusal> {
@@ -125,11 +136,9 @@ fn read<T: Calls>(width: u32, text: &[u8], format: &Format) -> Result<u64, Refus
 
 fn reading<T: Calls>() {
     let mut refused = 0;
-    for file in ["read.txt", "edges.txt", "top_edge.txt", "top_edge_long.txt"] {
-        for case in list::reading(file) {
-            assert_eq!(read::<T>(case.width, &case.text, &case.format), case.answer);
-            refused += usize::from(case.answer.is_err());
-        }
+    for case in list::READ.into_iter().flat_map(list::reading) {
+        assert_eq!(read::<T>(case.width, &case.text, &case.format), case.answer);
+        refused += usize::from(case.answer.is_err());
     }
     assert!(refused > 500, "damaged texts: {refused}");
 }

@@ -16,7 +16,7 @@ fn call<T: Calls>(case: &Sheet, b: &mut [u8]) -> Written {
 }
 
 fn lists<T: Calls>() {
-    for file in ["sheets.txt", "sheet_edges.txt"] {
+    for file in ["sheets.txt", "sheet_edges.txt", "signs_sheets.txt"] {
         let list = list::sheets(file);
         assert!(list.len() > 100, "{file}");
         for case in list {
@@ -31,7 +31,7 @@ fn lists<T: Calls>() {
     }
 }
 
-/// A table of 400 windows of the least float, in the format with the longest texts.
+/// A table of 400 windows of the least float's negative, in the format with the longest texts.
 fn largest<T: Calls>() {
     let format = Format {
         no_exponent_notation: true,
@@ -41,21 +41,19 @@ fn largest<T: Calls>() {
     let mut table = Vec::new();
     table.extend((MOST_WINDOWS as u32).to_le_bytes());
     table.extend((LONGEST_TABLE as u32).to_le_bytes());
-    table.resize_with(LONGEST_TABLE, Default::default);
-    for float in table[8..].chunks_mut(8) {
-        float[0] = 1;
-    }
-    let mut row = b"0.".to_vec();
-    row.resize(2 + 1073, b'0');
-    row.push(b'1');
-    row.resize(LONGEST_TEXT, b'0');
+    table.extend([1, 0, 0, 0, 0, 0, 0, 0x80].repeat(2 * MOST_WINDOWS));
+    let mut text = b"-0.".to_vec();
+    text.resize(3 + 1073, b'0');
+    text.push(b'1');
+    text.resize(LONGEST_TEXT, b'0');
     let mut sheet = b"400\n".to_vec();
     for _ in 0..MOST_WINDOWS {
-        sheet.extend_from_slice(&row);
+        sheet.extend_from_slice(&text);
         sheet.push(b' ');
-        sheet.extend_from_slice(&row);
+        sheet.extend_from_slice(&text);
         sheet.push(b'\n');
     }
+    assert_eq!(sheet.len(), 1_821_604);
     assert_eq!(sheet.len(), LONGEST_SHEET);
     expect_text(&sheet, 77, SHORT, |b| T::table_to_sheet(&table, &format, b));
     expect_text(&table, 77, SHORT, |b| T::sheet_to_table(&sheet, &format, b));
@@ -77,9 +75,12 @@ fn damaged_rows<T: Calls>() {
         // place in the line, byte, refusal, place of the refusal
         let damages = [
             (0, b'G', 9, line),
+            (0, b'-', 9, line + 1),
+            (0, b'+', 9, line),
             (5, b'+', 15, line),
             (5, b'\n', 15, line),
             (6, b'0', 14, line),
+            (6, b'-', 9, line + 7),
             (8, b'g', 9, line + 8),
             (11, b' ', 15, line),
         ];
@@ -90,15 +91,19 @@ fn damaged_rows<T: Calls>() {
                 T::sheet_to_table(&damaged, &format, b)
             });
         }
-        let mut infinite = table.clone();
-        infinite[8 + 8 * row..][..8].copy_from_slice(&f64::INFINITY.to_le_bytes());
-        expect(LONGEST_SHEET, Err(Refusal { number: 7, place: row }), |b| {
-            T::table_to_sheet(&infinite, &format, b)
-        });
-        let mut early = table.clone();
-        early[8 + 8 * (MOST_WINDOWS + row)..][..8].copy_from_slice(&0.5f64.to_le_bytes());
-        expect(LONGEST_SHEET, Err(Refusal { number: 14, place: row }), |b| {
-            T::table_to_sheet(&early, &format, b)
-        });
+        for start in [f64::INFINITY, f64::NEG_INFINITY] {
+            let mut infinite = table.clone();
+            infinite[8 + 8 * row..][..8].copy_from_slice(&start.to_le_bytes());
+            expect(LONGEST_SHEET, Err(Refusal { number: 7, place: row }), |b| {
+                T::table_to_sheet(&infinite, &format, b)
+            });
+        }
+        for end in [0.5f64, -1.5] {
+            let mut early = table.clone();
+            early[8 + 8 * (MOST_WINDOWS + row)..][..8].copy_from_slice(&end.to_le_bytes());
+            expect(LONGEST_SHEET, Err(Refusal { number: 14, place: row }), |b| {
+                T::table_to_sheet(&early, &format, b)
+            });
+        }
     }
 }

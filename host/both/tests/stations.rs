@@ -59,8 +59,8 @@ fn chain<T: Calls>(
     }
 }
 
-/// The lines of two lists that have a text and no digit limit.
-fn exact_lines(files: [&str; 2]) -> Vec<(Writing, Vec<u8>)> {
+/// The lines of lists that have a text and no digit limit.
+fn exact_lines(files: [&str; 4]) -> Vec<(Writing, Vec<u8>)> {
     let lines = files.into_iter().flat_map(list::writing);
     let exact = lines.filter(|line| line.format.max_significant_digits == 0);
     let exact: Vec<_> =
@@ -70,7 +70,8 @@ fn exact_lines(files: [&str; 2]) -> Vec<(Writing, Vec<u8>)> {
 }
 
 fn rewritten_in_place<T: Calls>() {
-    for (line, text) in exact_lines(["write.txt", "widths.txt"]) {
+    let files = ["write.txt", "widths.txt", "signs_write.txt", "write_edges.txt"];
+    for (line, text) in exact_lines(files) {
         let short = refused(0, Step::Writing, 8, 0);
         expect_text(&text, 30, short, |b| {
             rewrite::<T>(line.width, &text, &line.format, &line.format, b)
@@ -80,7 +81,8 @@ fn rewritten_in_place<T: Calls>() {
 
 fn chains_come_back<T: Calls>() {
     let formats = formats();
-    for (line, text) in exact_lines(["rust.txt", "widths.txt"]) {
+    let files = ["rust.txt", "widths.txt", "signs_write.txt", "write_edges.txt"];
+    for (line, text) in exact_lines(files) {
         for first in &formats {
             let others = formats.iter().map(Format::record);
             let further: Vec<_> = others.chain([line.format.record()]).collect();
@@ -95,8 +97,7 @@ fn chains_come_back<T: Calls>() {
 /// The texts of the reading lists too, many of them long or not as the writer would write them.
 fn chains_hand_on_the_float<T: Calls>() {
     let formats = formats();
-    let files = ["read.txt", "top_edge.txt", "top_edge_long.txt"];
-    for case in files.into_iter().flat_map(list::reading) {
+    for case in list::READ.into_iter().flat_map(list::reading) {
         let Ok(bits) = case.answer else { continue };
         for first in &formats {
             let last = formats[(bits % 6) as usize];
@@ -116,8 +117,7 @@ fn chains_hand_on_the_float<T: Calls>() {
 fn damaged_texts<T: Calls>() {
     let formats = formats();
     let mut count = 0;
-    let files = ["read.txt", "edges.txt", "top_edge.txt", "top_edge_long.txt"];
-    for case in files.into_iter().flat_map(list::reading) {
+    for case in list::READ.into_iter().flat_map(list::reading) {
         let Err(Refusal { number, place }) = case.answer else { continue };
         count += 1;
         let wanted = refused(0, Step::Reading, number, place);
@@ -177,7 +177,7 @@ fn refusals_by_station<T: Calls>() {
 
 /// A record of a format that fits it stands for that format: the chain writes what the writer does.
 fn records_say_the_same<T: Calls>() {
-    let files = ["limit_ref.txt", "write.txt", "widths.txt"];
+    let files = ["limit_ref.txt", "write.txt", "widths.txt", "signs_write.txt", "write_edges.txt"];
     for line in files.into_iter().flat_map(list::writing) {
         let Ok(text) = &line.answer else { continue };
         let exact = Format { no_exponent_notation: true, ..Format::new(2, 2, 10, b'^') };
@@ -186,7 +186,7 @@ fn records_say_the_same<T: Calls>() {
             32 => T::write_f32(f32::from_bits(line.bits as u32), &exact, &mut first),
             _ => T::write_f64(f64::from_bits(line.bits), &exact, &mut first),
         }
-        .expect("a plain float");
+        .expect("a finite float");
         let further = [line.format.record()];
         expect(text.len() + 3, Ok(text), |b| {
             chain::<T>(line.width, &first[..length], &exact, &exact, &further, b)

@@ -1,4 +1,4 @@
-//! A table of one window through the week: 16/2 on Tuesday, 32/32 on Wednesday, 2/2 on Thursday, and
+//! A table of two windows through the week: 16/2 on Tuesday, 32/32 on Wednesday, 2/2 on Thursday, and
 //! back into a table on Friday. Then one number along the same way, as a chain.
 
 use std::error::Error;
@@ -12,12 +12,13 @@ fn format(radix: u32, base: u32) -> Format {
 }
 
 fn main() -> Result<(), Box<dyn Error>> {
-    // Monday: a count, a length, the starts and the ends.
+    // Monday: a count, a length, the starts and the ends. The second window lies before second zero
+    // and ends at minus zero, which comes back as that, and not as zero.
     let mut monday = Vec::new();
-    monday.extend(1u32.to_le_bytes());
-    monday.extend(24u32.to_le_bytes());
-    monday.extend(1.0f64.to_le_bytes());
-    monday.extend(1.5f64.to_le_bytes());
+    monday.extend(2u32.to_le_bytes());
+    monday.extend(40u32.to_le_bytes());
+    monday.extend([1.0, -1.5].map(f64::to_le_bytes).as_flattened());
+    monday.extend([1.5, -0.0].map(f64::to_le_bytes).as_flattened());
 
     let days = [format(16, 2), format(32, 32), format(2, 2)];
     let mut table = monday.clone();
@@ -31,7 +32,7 @@ fn main() -> Result<(), Box<dyn Error>> {
 
     let further = [days[1].record(), days[2].record()];
     let mut buffer = [0; LONGEST_TEXT];
-    let length = chain_f64(b"1.8p0", &days[0], &days[0], &further, &mut buffer)?;
+    let length = chain_f64(b"-1.8p0", &days[0], &days[0], &further, &mut buffer)?;
     let text = &buffer[..length];
     println!("{} is {}", str::from_utf8(text)?, read_f64(text, &days[2])?);
     Ok(())

@@ -15,7 +15,7 @@ pub struct Format {
     pub required_exponent_sign: bool,
     /// A single digit keeps its ".0" before an exponent, even where floats are trimmed.
     pub no_exponent_without_fraction: bool,
-    /// A digit limit cuts off, and does not round to the nearest.
+    /// A digit limit cuts off, toward zero whatever the sign, and does not round to the nearest.
     pub truncate: bool,
     /// A text has no ".0".
     pub trim_floats: bool,
@@ -27,7 +27,7 @@ pub struct Format {
     pub mantissa_radix: u32,
     /// The base of which the exponent is a power.
     pub exponent_base: u32,
-    /// The digit limit.
+    /// The digit limit, of the magnitude.
     pub max_significant_digits: u32,
     /// The least digits; zeros fill up to them.
     pub min_significant_digits: u32,

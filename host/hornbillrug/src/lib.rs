@@ -1,10 +1,10 @@
 //! Number text in power-of-two radices, and outage sheets.
 //!
 //! A float becomes text in one of ten pairs of radix and base, such as 16/2, is rewritten from format
-//! to format, and is read back as the same float. The calls are proved: what they answer, and every
-//! byte that they leave in a buffer, equals a definition, for all arguments. This crate hands slices
-//! and structs to them and allocates nothing. `docs/FORMAT.md` has the formats, every call and every
-//! refusal.
+//! to format, and is read back as the same float, bit for bit: minus zero is another float than zero,
+//! and has a text of its own. The calls are proved: what they answer, and every byte that they leave in
+//! a buffer, equals a definition, for all arguments. This crate hands slices and structs to them and
+//! allocates nothing. `docs/FORMAT.md` has the formats, every call and every refusal.
 //!
 //! ```
 //! use hornbillrug::{read_f64, write_f64, Format, LONGEST_TEXT};
@@ -42,7 +42,7 @@ pub use sheet::{sheet_to_table, table_to_sheet};
 pub use station::{chain_f32, chain_f64, rewrite_f32, rewrite_f64};
 
 /// No text of a float is longer.
-pub const LONGEST_TEXT: usize = 2_275;
+pub const LONGEST_TEXT: usize = 2_276;
 /// A longer text is not read.
 pub const LONGEST_READ: usize = 4_096;
 /// The windows of the longest table.

@@ -36,7 +36,20 @@ pub fn write_integer(
 
 /// Writes a float's text, and answers its length, which is at most [`LONGEST_TEXT`](crate::LONGEST_TEXT).
 ///
-/// Refusals: 1 to 6 and 16 for the format, 7 for a float that is negative, -0 too, or not finite, 8.
+/// A set sign bit writes "-" in front of the magnitude's text, and so for minus zero.
+///
+/// Refusals: 1 to 6 and 16 for the format, 7 for a float that is not finite, 8.
+///
+/// ```
+/// use hornbillrug::{write_f64, Format};
+///
+/// let hex = Format::new(16, 2, 10, b'p');
+/// let mut buffer = [0; 4];
+/// assert_eq!(write_f64(-1.5, &hex, &mut buffer), Ok(4));
+/// assert_eq!(&buffer, b"-1.8");
+/// assert_eq!(write_f64(-0.0, &hex, &mut buffer), Ok(4));
+/// assert_eq!(&buffer, b"-0.0");
+/// ```
 #[inline]
 pub fn write_f64(x: f64, format: &Format, buffer: &mut [u8]) -> Result<usize, Refusal> {
     // SAFETY: pointer and length are those of one slice.
@@ -52,7 +65,21 @@ pub fn write_f32(x: f32, format: &Format, buffer: &mut [u8]) -> Result<usize, Re
 
 /// The float nearest to a text's value, ties to even.
 ///
-/// Refusals: 1, 2, 3 for the format, 12, 9, 10, 11 for the text.
+/// One "-" may stand in front, and no "+". The float's sign bit is set exactly where the text begins
+/// with "-": what stands behind it and rounds to zero is minus zero.
+///
+/// Refusals: 1, 2, 3 for the format, 12, 9, 10, 11 for the text. A place counts the "-" too.
+///
+/// ```
+/// use hornbillrug::{read_f64, Format};
+///
+/// let hex = Format::new(16, 2, 10, b'p');
+/// assert_eq!(read_f64(b"-1.8", &hex)?, -1.5);
+/// // far below the least denormal; -0.0 == 0.0, so only the sign bit tells
+/// let tiny = read_f64(b"-1.0p-2000", &hex)?;
+/// assert!(tiny == 0.0 && tiny.is_sign_negative());
+/// # Ok::<(), hornbillrug::Refusal>(())
+/// ```
 #[inline]
 pub fn read_f64(text: &[u8], format: &Format) -> Result<f64, Refusal> {
     // SAFETY: pointer and length are those of one slice.

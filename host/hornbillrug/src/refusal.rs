@@ -42,7 +42,7 @@ impl Refusal {
             4 => "exponent both required and forbidden",
             5 => "digit counts out of range",
             6 => "exponent break out of range",
-            7 => "float not finite, or its sign bit set",
+            7 => "float not finite",
             8 => "buffer too short",
             9 => "not the text of a number",
             10 => "exponent above 32,767",

@@ -6,8 +6,9 @@ use crate::{Format, Refusal};
 /// Writes the sheet of a table, and answers its length, which is at most
 /// [`LONGEST_SHEET`](crate::LONGEST_SHEET).
 ///
-/// Refusals: 1 to 6 and 16 for the format, where 5 is any digit limit too; 13; 7 and 14 with the row's
-/// index for the place; 8.
+/// Refusals: 1 to 6 and 16 for the format, where 5 is any digit limit too; 13; 7 for a start or an end
+/// that is not finite, and 14, with the row's index for the place; 8. 14 compares by value: a window may
+/// start at zero and end at minus zero.
 #[inline]
 pub fn table_to_sheet(table: &[u8], format: &Format, sheet: &mut [u8]) -> Result<usize, Refusal> {
     // SAFETY: each pointer and length are those of one slice; `sheet` is borrowed alone.

@@ -69,7 +69,8 @@ fn chain(
     .length()
 }
 
-/// Rewrites a text from one format into another through the nearest float, and answers its length.
+/// Rewrites a text from one format into another through the nearest float, and answers its length. The
+/// text written begins with "-" exactly where the one read does.
 ///
 /// Refusals: those of [`read_f64`](crate::read_f64) under `from`, then those of
 /// [`write_f64`](crate::write_f64) under `to`.
