@@ -53,6 +53,35 @@ impl Case {
         high: 0,
     };
 
+    /// The sign bit of the width.
+    fn sign_bit(&self) -> u64 {
+        1 << (self.width - 1)
+    }
+
+    /// Whether the float's sign bit is set: its text begins with "-", minus zero's too.
+    pub fn is_negative(&self) -> bool {
+        self.bits & self.sign_bit() != 0
+    }
+
+    /// The bits below the sign: those of the float's magnitude.
+    pub fn magnitude(&self) -> u64 {
+        self.bits & !self.sign_bit()
+    }
+
+    /// The case with the sign bit set.
+    pub fn negated(self) -> Case {
+        Case { bits: self.bits | self.sign_bit(), ..self }
+    }
+
+    /// What stands in front of the magnitude's text.
+    pub fn sign(&self) -> &'static str {
+        if self.is_negative() {
+            "-"
+        } else {
+            ""
+        }
+    }
+
     /// The Rust's format, or none where document 01 refuses it.
     pub fn format(&self) -> Option<Format> {
         let notation = match (self.required_exponent_notation, self.no_exponent_notation) {

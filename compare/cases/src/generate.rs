@@ -1,4 +1,5 @@
-//! Random and edge cases that document 01's writer admits: finite, sign bit clear, no refusal.
+//! Random and edge cases that no refusal meets. They are drawn with the sign bit clear, as the Rust
+//! takes them; `signed` sets it.
 
 pub use lexical_write_float::formats::{EXPONENT_RADICES, PAIRS};
 
@@ -195,6 +196,17 @@ pub fn with_limit_in_domain(random: &mut Random) -> Case {
     }
 }
 
-/// The longest text, 2,275 bytes: the least denormal without an exponent and with 1,200 digits.
+/// A case or its negative, each as often. The signs have random numbers of their own, so that a seed
+/// names the same magnitudes with them and without.
+pub fn signed(signs: &mut Random, case: Case) -> Case {
+    if signs.one_in(2) {
+        case.negated()
+    } else {
+        case
+    }
+}
+
+/// The longest text of a magnitude, 2,275 bytes: the least denormal without an exponent and with 1,200
+/// digits.
 pub const LONGEST: Case =
     Case { bits: 1, no_exponent_notation: true, least: 1200, ..Case::DEFAULT };

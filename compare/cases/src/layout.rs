@@ -1,4 +1,5 @@
-//! What document 01 says of a case in whole numbers: m, e, s, the length of D, and the layout.
+//! What document 01 says of a case in whole numbers: m, e, s, the length of D, and the layout. All of it
+//! is said of the magnitude, whatever the sign.
 //!
 //! None of it is taken from the Rust or from ours. It decides which cases stand in the domain and
 //! which layouts a list holds; the texts themselves come from the two writers only.
@@ -16,11 +17,11 @@ pub fn stored_bits_and_least_exponent(width: u32) -> (u32, i32) {
     }
 }
 
-/// Mantissa m and exponent e, the float's value being m * 2^e.
+/// Mantissa m and exponent e, the float's magnitude being m * 2^e.
 pub fn parts(case: &Case) -> (u64, i32) {
     let (stored, least) = stored_bits_and_least_exponent(case.width);
     let fraction = case.bits & ((1 << stored) - 1);
-    match (case.bits >> stored) as i32 {
+    match (case.magnitude() >> stored) as i32 {
         0 => (fraction, least),
         biased => (fraction | 1 << stored, least + biased - 1),
     }

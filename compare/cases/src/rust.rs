@@ -1,4 +1,5 @@
-//! What the Rust writes for a case.
+//! What the Rust writes for a case. It takes no float with the sign bit set, so it is lent the magnitude;
+//! what it writes stands behind the sign.
 
 use std::num::{NonZeroI32, NonZeroUsize};
 
@@ -27,21 +28,22 @@ pub fn rust_options(case: &Case) -> Options {
         .build_unchecked()
 }
 
-/// Lets the Rust write into `lent` and answers the length. The case has to be one that document
-/// 01 does not refuse.
+/// Lets the Rust write the magnitude into `lent` and answers the length. The case has to be one that
+/// no refusal meets.
 pub fn rust_write(case: &Case, lent: &mut [u8; LENT]) -> usize {
     let format = case.format().expect("a format of document 01");
     let options = rust_options(case);
     match case.width {
-        32 => format.of_f32()(f32::from_bits(case.bits as u32), lent, &options),
-        64 => format.of_f64()(f64::from_bits(case.bits), lent, &options),
+        32 => format.of_f32()(f32::from_bits(case.magnitude() as u32), lent, &options),
+        64 => format.of_f64()(f64::from_bits(case.magnitude()), lent, &options),
         _ => panic!("a width of 32 or 64"),
     }
 }
 
-/// The text that the Rust writes.
+/// The sign, and the text that the Rust writes for the magnitude.
 pub fn rust_text(case: &Case) -> String {
     let mut lent = [0; LENT];
     let length = rust_write(case, &mut lent);
-    String::from_utf8(lent[..length].to_vec()).expect("a text of ASCII bytes")
+    let text = std::str::from_utf8(&lent[..length]).expect("a text of ASCII bytes");
+    format!("{}{text}", case.sign())
 }

@@ -1,4 +1,5 @@
-//! One case held against the Rust: the answer and every byte lent.
+//! One case held against the Rust: the answer and every byte lent. The Rust's text is that of the
+//! magnitude, and is compared with the part of ours behind the sign.
 
 use std::fmt;
 use std::panic::catch_unwind;
@@ -27,6 +28,7 @@ const SHORT: u32 = 8;
 pub enum Difference {
     RustPanics,
     Refused(Answer),
+    Sign,
     Text,
     BytesPastText,
     ExactBuffer,
@@ -40,6 +42,7 @@ impl fmt::Display for Difference {
             Difference::Refused(Answer { number, place, .. }) => {
                 write!(f, "ours refuses {number} at {place}")
             }
+            Difference::Sign => write!(f, "ours has a \"-\" too many or too few"),
             Difference::Text => write!(f, "another text"),
             Difference::BytesPastText => write!(f, "ours changed bytes past the text"),
             Difference::ExactBuffer => write!(f, "ours differs in a buffer of the text's length"),
@@ -48,13 +51,13 @@ impl fmt::Display for Difference {
     }
 }
 
-/// The Rust's text, or none where it panics. It leaves scratch past the text.
+/// The sign and the Rust's text, or none where the Rust panics. It leaves scratch past the text.
 pub fn rust_or_panic(case: &Case) -> Option<Vec<u8>> {
     let case = *case;
     catch_unwind(move || {
         let mut lent = [0; LENT];
         let length = rust_write(&case, &mut lent);
-        lent[..length].to_vec()
+        [case.sign().as_bytes(), &lent[..length]].concat()
     })
     .ok()
 }
@@ -78,8 +81,8 @@ fn holds(lent: &[u8; LENT], text: &[u8]) -> bool {
     lent[..text.len()] == *text && lent[text.len()..] == BEFORE[text.len()..]
 }
 
-/// Lets ours write with 4,096 bytes, with the text's length and with one byte less. Answers the
-/// text's length.
+/// Lets ours write with 4,096 bytes, with the text's length and with one byte less; the sign is one of
+/// the text's bytes. Answers the text's length.
 pub fn check(case: &Case) -> Result<usize, Difference> {
     let text = rust_or_panic(case).ok_or(Difference::RustPanics)?;
     let length = text.len();
@@ -88,6 +91,9 @@ pub fn check(case: &Case) -> Result<usize, Difference> {
     let answer = ours::write(case, &mut lent);
     if answer.number != 0 {
         return Err(Difference::Refused(answer));
+    }
+    if lent.starts_with(b"-") != case.is_negative() {
+        return Err(Difference::Sign);
     }
     if answer != ours::length(length) || lent[..length] != *text {
         return Err(Difference::Text);

@@ -3,7 +3,7 @@
 use std::collections::BTreeMap;
 use std::fmt;
 
-use cases::generate::{float_at, with_limit};
+use cases::generate::{float_at, signed, with_limit};
 use cases::layout::{
     bits_of_digit, carries, length_of_d, parts, rust_drops_bits, significant_bits,
 };
@@ -158,13 +158,18 @@ fn search_small(found: &mut BTreeMap<Kind, Found>) {
 pub fn limits(seed: u64, count: u64) {
     let mut found = BTreeMap::new();
     search_small(&mut found);
-    let mut random = Random::new(seed);
+    let (mut random, mut signs) = (Random::new(seed), Random::new(!seed));
+    let mut negative = 0;
     for _ in 0..count {
-        let case = with_limit(&mut random);
+        let case = signed(&mut signs, with_limit(&mut random));
+        negative += case.is_negative() as u64;
         count_random(&mut found, &case);
         try_small(&mut found, &case);
     }
-    println!("digit limits outside the domain, seed {seed}, {count} random cases drawn");
+    println!(
+        "digit limits outside the domain, seed {seed}, {count} random cases drawn, {negative} of them \
+         negative"
+    );
     println!("radix, round mode, cause: random cases, differing, the Rust panics; a small input");
     for ((radix, cause, truncate), entry) in &found {
         let round = if *truncate { "Truncate" } else { "Round" };

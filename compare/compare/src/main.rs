@@ -6,7 +6,7 @@ mod limits;
 use std::collections::BTreeMap;
 use std::{env, panic, process::exit};
 
-use cases::generate::{with_limit_in_domain, with_wide_limit, without_limit};
+use cases::generate::{signed, with_limit_in_domain, with_wide_limit, without_limit};
 use cases::layout::layout_of;
 use cases::list::replay;
 use cases::random::Random;
@@ -68,10 +68,21 @@ fn show(case: &Case, difference: check::Difference) {
     }
 }
 
+/// The name under which a case's sign is counted, the two zeros apart.
+fn sign_of(case: &Case) -> &'static str {
+    match (case.is_negative(), case.magnitude()) {
+        (true, 0) => "minus zero",
+        (true, _) => "\"-\"",
+        (false, 0) => "none, zero",
+        (false, _) => "none",
+    }
+}
+
 /// What was compared.
 #[derive(Default)]
 struct Counts {
     by_name: BTreeMap<String, u64>,
+    negative: u64,
     longest: usize,
     differing: u64,
 }
@@ -86,6 +97,8 @@ impl Counts {
         self.add(format!("limit: {limit}"));
         self.add(format!("pair: {}/{} at {} bits", case.radix, case.base, case.width));
         self.add(format!("layout: {}", layout_of(case)));
+        self.add(format!("sign: {}", sign_of(case)));
+        self.negative += case.is_negative() as u64;
         match check(case) {
             Ok(length) => self.longest = self.longest.max(length),
             Err(difference) => {
@@ -100,16 +113,19 @@ impl Counts {
 
 /// Compares `count` random cases and prints the counts. Answers whether all agree.
 fn compare(seed: u64, count: u64) -> bool {
-    let mut random = Random::new(seed);
+    let (mut random, mut signs) = (Random::new(seed), Random::new(!seed));
     let mut counts = Counts::default();
     for _ in 0..count {
         let (limit, case) = draw(&mut random);
-        counts.take(limit, &case);
+        counts.take(limit, &signed(&mut signs, case));
     }
     for (name, cases) in &counts.by_name {
         println!("{cases:9} {name}");
     }
-    let Counts { longest, differing, .. } = counts;
-    println!("seed {seed}: {count} compared, {differing} different, longest text {longest} bytes");
+    let Counts { negative, longest, differing, .. } = counts;
+    println!(
+        "seed {seed}: {count} compared, {negative} of them negative, {differing} different, longest text \
+         {longest} bytes"
+    );
     differing == 0
 }

@@ -99,7 +99,8 @@ fn names(case: &Case) -> Vec<String> {
         (case.high != 0, "high break"),
         (case.point != b'.', "point other than \".\""),
         (case.mark != b'^', "mark other than \"^\""),
-        (case.bits == 0, "zero"),
+        (case.magnitude() == 0, "zero"),
+        (case.is_negative(), "sign bit set"),
     ];
     names.extend(marks.iter().filter(|(holds, _)| *holds).map(|(_, name)| name.to_string()));
     names
