@@ -8,12 +8,15 @@ import struct
 import sys
 
 DAY = 1794787200.0  # 2026-11-16, seconds of the Unix clock
+SURVEY = -315619200.0  # 1960-01-01, before second zero
 
 MONDAY = [
     (DAY + 21600.0, DAY + 28800.0),
     (DAY + 30000.25, DAY + 30012.75),
     (DAY + 43200.1, DAY + 43260.7),
     (DAY + 1e-6, DAY + 86399.999999),
+    (SURVEY + 21600.25, SURVEY + 28800.7),
+    (-0.0, 900.0),
     (1.0, 1.5),
     (0.0, 0.0),
     (0.1, 1 / 3),

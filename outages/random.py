@@ -49,30 +49,41 @@ def rewritten(source, target, sheet):
 # ---- random inputs
 
 def some_bits(r):
-    """A denormal, any float, a short one, an edge, any pattern, a time of day: finite but for a few."""
-    return r.choice([
+    """A denormal, any float, a short one, an edge, one of any size below 2, a time of day, and now and then an infinity or a NaN; of either sign."""
+    magnitude = r.choice([
         lambda: r.getrandbits(52),
         lambda: r.randrange(reference.INFINITY),
         lambda: (r.randrange(1015, 1083) << 52) | (r.getrandbits(6) << 46),
-        lambda: r.choice([0, 1, (1 << 52) - 1, 1 << 52, reference.INFINITY - 1]),
-        lambda: r.getrandbits(64 if r.random() < 0.1 else 62),
+        lambda: r.choice([0, 0, 1, (1 << 52) - 1, 1 << 52, reference.INFINITY - 1]),
+        lambda: r.getrandbits(62),
         lambda: 0x41D0000000000000 + r.getrandbits(50),
     ])()
+    if r.random() < 0.005:
+        magnitude = reference.INFINITY + r.choice([0, r.getrandbits(52)])
+    return magnitude + r.choice([0, reference.SIGN])
+
+
+def by_value(bits):
+    """Orders bits as their floats are, with the zeros equal; a NaN stands beyond the infinity of its sign."""
+    return reference.SIGN - bits if bits >= reference.SIGN else bits
 
 
 def damaged(r, given):
-    """One or two bytes are another, one more or one less."""
+    """One or two bytes are another, one more or one less; now and then a sign stands where a line or a field begins."""
     made = bytearray(given)
     for _ in range(r.randrange(1, 3)):
         at = r.randrange(len(made) + 1)
         byte = bytes([r.choice(TELLING) if r.random() < 0.7 else r.randrange(256)])
+        if r.random() < 0.2:
+            at = r.choice([0] + [i + 1 for i in range(len(made)) if made[i] in b" \n"])
+            byte = r.choice([b"+", b"-"])
         made[at : at + r.randrange(2)] = byte if r.random() < 0.7 else b""
     return bytes(made)
 
 
 def some_table(r):
     count = r.choice([0, 1, 2, 3, 5, 17])
-    rows = [sorted((some_bits(r), some_bits(r)), reverse=r.random() < 0.02) for _ in range(count)]
+    rows = [sorted((some_bits(r), some_bits(r)), key=by_value, reverse=r.random() < 0.02) for _ in range(count)]
     columns = [start for start, _ in rows] + [end for _, end in rows]
     table = reference.table(count, 8 + 16 * count, *columns)
     return damaged(r, table) if r.random() < 0.15 else table
