@@ -15,7 +15,6 @@ use lib.Ieee.Compare.{differs-from-itself, nan-differs}
 use lib.Ieee.Digits.{minus-val}
 use lib.Ieee.Exact.{HasValue, odd-sign}
 use lib.Ieee.Scale.{finite}
-use Rattle.lexical_exponent.specs.declared.exponent.Magnitude.{Magnitude}
 use Rattle.lexical_float.specs.declared.num.Parts.{Parts}
 use Rattle.lexical_float.specs.declared.num.Parts.the-variants.{Finite, Special}
 use Rattle.lexical_float.specs.Fields.{mantissa, exponent}

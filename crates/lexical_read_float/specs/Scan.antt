@@ -1,7 +1,7 @@
 -- What the code's one pass over a text finds, by the shape that the text has. No exported contract cites it. Definitions only.
 use Prim.Native.Nat.{ℕ, _+_, _-_, _≤_, min, _*_}
 use mathlib.Core.Bool.{Bool, true, false}
-use mathlib.Core.List.{List, [], _∷_, _++_}
+use mathlib.Core.List.{List, _++_}
 use lib.IntN.{pos, natAbs}
 use lib.ListN.{length}
 use Rattle.lexical_exponent.specs.declared.exponent.DigitExponent.{DigitExponent}

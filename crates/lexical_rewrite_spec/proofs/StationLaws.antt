@@ -12,7 +12,7 @@ use lib.ListN.{length, take, drop}
 use lib.Seq.{take-append-seam}
 use lib.Ieee.{Float, Format, fits}
 use lib.Ieee.Positive.{num, den}
-use Rattle.lexical_util.specs.Answer.{Answer, done, refused, andThen, written, held}
+use Rattle.lexical_util.specs.Answer.{Answer, done, refused, written, held}
 use Rattle.lexical_util.proofs.AnswerLaws.{text-fits}
 use Rattle.lexical_float.proofs.FloatLaws.{own-fraction}
 use Rattle.lexical_write_float_spec.specs.Write.{longestText}

@@ -3,7 +3,6 @@ use Prim.Native.Nat.{_+_, _*_, _≤_}
 use mathlib.Core.Path.{_≡_, ap, ap₂, _∙_}
 use native.Mathlib.Nat.{mul-le-mul, le-trans}
 use native.Mathlib.Omega.{arith}
-use borrow.Author.Needs.{needs}
 use lib.IntN.{pos, natAbs}
 use Rattle.lexical_exponent.specs.Exponent.{heightAbove}
 use Rattle.lexical_exponent.proofs.ExponentLaws.{height-few, signed-few}
