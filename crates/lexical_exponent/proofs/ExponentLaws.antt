@@ -18,7 +18,7 @@ use mir.Syntax.{w32, w64}
 use mir.Val.{Fits, SFits, toZ, ofZ}
 use mir.Facts.{toZ-ofZ, toZ-pos}
 use Rattle.lexical_exponent.specs.Exponent.{clamped, scale, LeadingBit, place, isNegative, power, modulo, heightAbove, signed}
-use Rattle.lexical_exponent.proofs.DifferenceLaws.{by-larger, gap-above, gap-of, widened}
+use Rattle.lexical_exponent.proofs.DifferenceLaws.{by-larger, gap-of, widened}
 use Rattle.lexical_exponent.proofs.PowerLaws.{size-pos, leading-size}
 
 -- ---- significant bits by leading zeros, and s
@@ -120,10 +120,6 @@ module _ (a b : ℤ) (h : mag a < 2147483648) (k : mag b < 2147483648) (le : ltZ
 
   pub coded-gap-is : natAbs (toZ w64 (ofZ w64 coded-gap)) ≡ heightAbove a b
   coded-gap-is = rw (coded-gap-same, toZ-ofZ difference, le)
-
--- e is d and the height above it
-pub height-is : (e d : ℤ) → ltZ e d ≡ false → e ≡ d +ℤ pos (heightAbove e d)
-height-is e d le = let g = gap-of e d le in rw (le, g .is) (gap-above e d (g .gap) (g .is))
 
 -- of an exponent above 0 and of one below
 pub height-up : (n : ℕ) → (heightAbove (pos n) (pos 0) ≡ n) × (heightAbove (pos 0) (pos n) ≡ 0)
