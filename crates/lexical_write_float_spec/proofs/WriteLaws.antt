@@ -71,7 +71,7 @@ finite-text F o row (inf s) w h = absurd h
 finite-text F o row (fin s m e) w h = (signedText F o (fin s m e) row, ap (λ (z : Answer Pair). andThen z (floatText F o (fin s m e))) w)
 
 -- a sign is one byte
-pub sign-short : (s : Bool) → length (minusSign s) ≤ 1
+sign-short : (s : Bool) → length (minusSign s) ≤ 1
 sign-short true = omega arith
 sign-short false = omega arith
 
