@@ -37,6 +37,9 @@ back-end r v W out i z w = sym (w ∙ rw z)
 pub shifted : (b : ℕ) → b < 64 → (1 * 2 ^ b) % 2 ^ 64 ≡ 2 ^ b
 shifted b h = rw one-mul (mod-eq-of-lt {n = 2 ^ b} {m = 2 ^ 64} (pow-lt {i = b} {j = 64} h))
 
+pub mask-is : (b : ℕ) → b < 64 → (1 * 2 ^ b) % 2 ^ 64 - 1 + 1 ≡ 2 ^ b
+mask-is b h = omega (arith, shifted b h, pow-pos b)
+
 -- what the mask keeps is the remainder
 pub masked : (b v m : ℕ) → m + 1 ≡ 2 ^ b → bitAnd v m ≡ v % 2 ^ b
 masked b v m e = let z : m ≡ 2 ^ b - 1 = omega arith in rw z (and-mask v b)

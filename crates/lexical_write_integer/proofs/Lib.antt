@@ -1,3 +1,3 @@
 pub mod FillLaws
 pub mod PairLaws
-pub mod FourLaws
+pub mod StepLaws

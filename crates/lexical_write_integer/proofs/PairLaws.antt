@@ -1,55 +1,50 @@
--- Digit tables by their rules, and two digits of radix 32 stored by the pairs'. Assumes nothing.
-use Prim.Native.Nat.{ℕ, _+_, _-_, _*_, _/_, _%_, _≤_, _<_}
-use mathlib.Core.Path.{_≡_, _∙_}
-use mathlib.Core.List.{List, _++_}
+-- The tables by their rules, over all entries at once, and the two bytes of a pair. Assumes nothing.
+use Prim.Native.Nat.{ℕ, zero, suc, _+_, _*_, _/_, _%_, _^_, _<_}
+use mathlib.Core.Path.{_≡_, refl, ap, _∙_}
+use mathlib.Core.List.{List, [], _∷_}
+use native.Mathlib.Nat.{mod-lt}
 use native.Mathlib.Omega.{arith}
-use lib.ListN.{length, getD, drop, set, length-set}
+use lib.ListN.{length, getD}
+use lib.Pow.{pow-pos, field, mod-mod-pow}
 use Rattle.lexical_util.specs.Digit.{digitByte}
+use Rattle.lexical_util.proofs.TableLaws.{tab, tab-at}
 use Rattle.lexical_write_integer_spec.specs.Write.{lastNumeral}
-use Rattle.lexical_write_integer.specs.Table.{pairByte}
-use Rattle.lexical_write_integer.proofs.FillLaws.{back-step}
+use Rattle.lexical_write_integer.specs.Table.{pairByte, Pairs, Chars}
 
--- the 32 digits follow theirs
-pub record Chars (table : List ℕ) : Type 0 where
-  pub at : (k : ℕ) → k < 32 → getD table k 0 ≡ digitByte k
+-- a table that is computed from the rule follows it; that the code's is that one, antt compares where it is lent
+pub chars-follow : Chars (tab digitByte 0 32)
+chars-follow = record { at = λ k h. tab-at digitByte 32 k h }
 
--- the 1,024 pairs follow the rule
-pub record Pairs (table : List ℕ) : Type 0 where
-  pub at : (k : ℕ) → k < 2048 → getD table k 0 ≡ pairByte k
+length-tab : (f : ℕ → ℕ) (i n : ℕ) → length (tab f i n) ≡ n
+length-tab f i zero = refl
+length-tab f i (suc n) = ap suc (length-tab f (suc i) n)
+
+pub pairs-follow : (b : ℕ) → Pairs b (tab (pairByte (2 ^ b)) 0 (2 * 2 ^ (b + b)))
+pairs-follow b =
+    let n = 2 * 2 ^ (b + b) in
+    record { size = length-tab (pairByte (2 ^ b)) 0 n; at = λ k h. tab-at (pairByte (2 ^ b)) n k h }
 
 -- ---- the two bytes of a pair
-pair-high : (q : ℕ) → pairByte (2 * q) ≡ digitByte (q / 32)
+pair-first : (r q : ℕ) → pairByte r (2 * q) ≡ digitByte (q / r)
 unfolding pairByte
-pair-high q =
+pair-first r q =
     let e : 2 * q % 2 ≡ 0 = omega arith in
     let h : 2 * q / 2 ≡ q = omega arith in
     rw (e, h)
 
-pair-low : (q : ℕ) → pairByte (2 * q + 1) ≡ digitByte (q % 32)
+pair-last : (r q : ℕ) → pairByte r (2 * q + 1) ≡ digitByte (q % r)
 unfolding pairByte
-pair-low q =
+pair-last r q =
     let e : (2 * q + 1) % 2 ≡ 1 = omega arith in
     let h : (2 * q + 1) / 2 ≡ q = omega arith in
     rw (e, h)
 
--- ---- two digits at a time
-module _ (table : List ℕ) (rule : Pairs table) (v : ℕ) (W out : List ℕ) (i a b : ℕ)
-    (at-low : a ≡ getD table (2 * (v % 1024) + 1) 0)
-    (at-high : b ≡ getD table (2 * (v % 1024)) 0)
-    (left : W ≡ lastNumeral 32 i v ++ drop i out)
-  where
-    low : a ≡ digitByte (v % 32)
-    low =
-        let e : v % 1024 % 32 ≡ v % 32 = omega arith in
-        at-low ∙ rule .at (2 * (v % 1024) + 1) (omega arith) ∙ pair-low (v % 1024) ∙ rw e
-
-    high : b ≡ digitByte (v / 32 % 32)
-    high =
-        let e : v % 1024 / 32 ≡ v / 32 % 32 = omega arith in
-        at-high ∙ rule .at (2 * (v % 1024)) (omega arith) ∙ pair-high (v % 1024) ∙ rw e
-
-    pub two-steps : 1 < i → i ≤ length out → W ≡ lastNumeral 32 (i - 1 - 1) (v / 1024) ++ drop (i - 1 - 1) (set (set out (i - 1) a) (i - 1 - 1) b)
-    two-steps p q =
-        let e : v / 32 / 32 ≡ v / 1024 = omega arith in
-        let s = back-step 32 v W out i a (omega arith) q low left in
-        rw e at (back-step 32 (v / 32) W (set out (i - 1) a) (i - 1) b (omega arith) (simp length-set (omega arith)) high s)
+-- they are the last two digits of a number
+pub pair-digits : (b : ℕ) (table : List ℕ) → Pairs b table → (v a d : ℕ) → a ≡ getD table (2 * (v % 2 ^ (b + b))) 0 → d ≡ getD table (2 * (v % 2 ^ (b + b)) + 1) 0 → a ∷ d ∷ [] ≡ lastNumeral (2 ^ b) 2 v
+unfolding lastNumeral
+pair-digits b table rule v a d at-first at-last =
+    let q = v % 2 ^ (b + b) in
+    let l : q < 2 ^ (b + b) = mod-lt v {m = 2 ^ (b + b)} (pow-pos (b + b)) in
+    let first = at-first ∙ rule .at (2 * q) (omega arith) ∙ pair-first (2 ^ b) q ∙ ap digitByte (field v b b) in
+    let last = at-last ∙ rule .at (2 * q + 1) (omega arith) ∙ pair-last (2 ^ b) q ∙ ap digitByte (mod-mod-pow v b b) in
+    rw (first, last)

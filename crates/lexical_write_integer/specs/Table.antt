@@ -1,13 +1,21 @@
--- The table of digit pairs: document 01, "Integer digits"; and one of four binary digits, on which no answer depends. Definitions only.
-use Prim.Native.Nat.{ℕ, _-_, _/_, _%_, _^_}
+-- The table of digit pairs: document 01, "Integer digits"; and the tables' rules. Definitions only.
+use Prim.Native.Nat.{ℕ, _+_, _*_, _/_, _%_, _^_, _<_}
+use mathlib.Core.Path.{_≡_}
 use mathlib.Core.Bool.{cond}
+use mathlib.Core.List.{List}
 use lib.Dec.{eqb}
+use lib.ListN.{length, getD}
 use Rattle.lexical_util.specs.Digit.{digitByte}
 
--- digit pairs for radix 32, 1,024 of them, are one table: entry i, bytes 2 i and 2 i + 1, holds the digits of i div 32 and i mod 32
-unfoldable pub pairByte : ℕ → ℕ
-pairByte k = let i = k / 2 in cond (eqb (k % 2) 0) (digitByte (i / 32)) (digitByte (i % 32))
+-- digit pairs of a radix are one table, 1,024 of them for radix 32: entry i, bytes 2 i and 2 i + 1, holds the digits of i div radix and i mod radix
+unfoldable pub pairByte : ℕ → ℕ → ℕ
+pairByte radix k = let i = k / 2 in cond (eqb (k % 2) 0) (digitByte (i / radix)) (digitByte (i % radix))
 
--- four digits of radix 2: entry i of 16, bytes 4 i to 4 i + 3, holds the digits of i, leading zeros included
-unfoldable pub fourByte : ℕ → ℕ
-fourByte k = digitByte (k / 4 / 2 ^ (3 - k % 4) % 2)
+-- a table of radix 2 ^ b that follows the rule
+pub record Pairs (b : ℕ) (table : List ℕ) : Type 0 where
+  pub size : length table ≡ 2 * 2 ^ (b + b)
+  pub at : (k : ℕ) → k < 2 * 2 ^ (b + b) → getD table k 0 ≡ pairByte (2 ^ b) k
+
+-- one of the 32 digits
+pub record Chars (table : List ℕ) : Type 0 where
+  pub at : (k : ℕ) → k < 32 → getD table k 0 ≡ digitByte k

@@ -1,30 +1,11 @@
-// Derived from lexical-write-integer/src/digit_count.rs, changed: u64 alone, the radix by its bits, a test for 0 instead of `x | 1`.
+// Derived from lexical-write-integer/src/digit_count.rs, changed: u64 alone, the radix by its bits, and the significant bits over them, rounded up (document 02, 2.4), instead of a logarithm.
 ghost use mathlib.Core.Path.{_≡_};
-ghost use Prim.Native.Nat.{_-_, max};
-ghost use lib.Ieee.{size};
+ghost use Prim.Native.Nat.{max};
 ghost use Rattle.lexical_write_integer_spec.specs.Write.{digitCount, digitLog};
 use crate::decimal::decimal_count;
 use lexical_exponent::quotient;
 use lexical_exponent::significant_bits;
 use lexical_util::digit_bits;
-
-// The place of the highest bit that is set, 0 for 0.
-pub(crate) fn fast_log2(x: u64) -> u32
-    ensures { λ r. ⌜ r ≡ size x - 1 ⌝ }
-{
-    let bits = significant_bits(x);
-    if bits == 0 { 0 } else { bits - 1 }
-}
-
-// How many digits value has in radix 2^bits_per_digit, and 0 where a digit has no bits.
-pub fn digit_log(value: u64, bits_per_digit: u32) -> usize
-    ensures { λ r. ⌜ r ≡ digitLog value «bits_per_digit» ⌝ }
-{
-    if bits_per_digit == 0 {
-        return 0;
-    }
-    (quotient(fast_log2(value) as u64, bits_per_digit) + 1) as usize
-}
 
 // A count, or the least width where that is greater.
 fn at_least(width: u32, count: usize) -> usize
@@ -32,6 +13,19 @@ fn at_least(width: u32, count: usize) -> usize
 {
     let least = width as usize;
     if count < least { least } else { count }
+}
+
+// How many digits value has in radix 2^bits_per_digit: its significant bits over those of a digit, rounded up, and at least 1; and 0 where a digit has no bits.
+pub fn digit_log(value: u64, bits_per_digit: u32) -> usize
+    ensures { λ r. ⌜ r ≡ digitLog value «bits_per_digit» ⌝ }
+{
+    if bits_per_digit == 0 {
+        return 0;
+    }
+    let bits = significant_bits(value);
+    let more = bits_per_digit - 1;
+    let digits = quotient(bits as u64 + more as u64, bits_per_digit);
+    at_least(1, digits as usize)
 }
 
 // How many digits value has in a radix, at least the width, and 0 in a number that is no radix.

@@ -1,64 +1,70 @@
-// Derived from lexical-write-integer/src/radix.rs, changed: shifts and a mask, pairs in radix 32 alone, the count given.
+// Derived from lexical-write-integer/src/radix.rs, changed: shifts and a mask, the count given, and the leading digit first, one or two a step.
 ghost use mathlib.Core.Path.{_≡_};
-ghost use mathlib.Core.List.{_++_};
-ghost use Prim.Native.Nat.{_%_, _^_, _≤_};
-ghost use lib.ListN.{length, drop};
+ghost use Prim.Native.Nat.{_-_, _*_, _%_, _^_, _≤_, _<_};
+ghost use lib.ListN.{length};
 ghost use Rattle.lexical_write_integer_spec.specs.Write.{lastNumeral};
+ghost use Rattle.lexical_write_integer_spec.specs.Front.{Onward};
+ghost use Rattle.lexical_write_integer.specs.Table.{Pairs};
+use crate::front::step;
+use crate::front::step_pairs;
+use crate::table::DIGIT_TO_BASE2_SQUARED;
 use crate::table::DIGIT_TO_BASE32_SQUARED;
 use crate::table::DIGIT_TO_CHAR;
-use crate::table::lent_char;
-use crate::table::table_byte;
 
-// The last count digits of value in radix 2^b, leading zeros included, at the front of the buffer, from the back.
-pub(crate) fn radix(value: u64, b: u32, count: usize, buffer: &mut [u8])
-    requires { ⌜ (b ≤ 5) × (count ≤ length (now buffer)) ⌝ }
-    ensures { λ _. ⌜ now (buffer .exit) ≡ lastNumeral (2 ^ b) count value ++ drop count (now (buffer .entry)) ⌝ }
+// The first step: one digit where an odd number is left, so that all others go by two.
+fn odd_digit(value: u64, b: u32, count: usize, from: usize, buffer: &mut [u8]) -> usize
+    requires { ⌜ (0 < b) × (b ≤ 5) × (from ≤ count) × (b * (count - from - 1) < 64) × (count ≤ length (now buffer)) ⌝ }
+    ensures { λ r. ⌜ (from ≤ r) × (r ≤ count) × ((count - r) % 2 ≡ 0) ⌝ }
+    ensures { λ r. ⌜ Onward (lastNumeral (2 ^ b) count value) from r (now (buffer .entry)) (now (buffer .exit)) ⌝ }
+{
+    if (count - from) % 2 == 1 {
+        return step(&DIGIT_TO_CHAR, value, b, count, from, 1, buffer);
+    }
+    from
+}
+
+// From so many digits on to the last, two a step.
+fn radix(value: u64, b: u32, count: usize, from: usize, buffer: &mut [u8])
+    requires { ⌜ (0 < b) × (b ≤ 5) × (from ≤ count) × ((count - from) % 2 ≡ 0) × (b * (count - from - 1) < 64) × (count ≤ length (now buffer)) ⌝ }
+    ensures { λ _. ⌜ Onward (lastNumeral (2 ^ b) count value) from count (now (buffer .entry)) (now (buffer .exit)) ⌝ }
 {
     let table = &DIGIT_TO_CHAR;
-    let mask = (1u64 << b) - 1;
-    let mut i = count;
-    let mut v = value;
-    while 0 < i {
-        i -= 1;
-        buffer[i] = lent_char(table, (v & mask) as usize);
-        v = v >> b;
+    let mut at = from;
+    while at < count {
+        at = step(table, value, b, count, at, 2, buffer);
     }
 }
 
-// The last two digits in radix 32, as one number.
-fn last_pair(v: u64) -> usize
-    ensures { λ r. ⌜ r ≡ v % 1024 ⌝ }
+// The same from a table of pairs.
+fn radix_pairs(table: &[u8], value: u64, b: u32, count: usize, from: usize, buffer: &mut [u8])
+    requires { ⌜ Pairs b (now table) × (0 < b) × (b ≤ 5) × (from ≤ count) × ((count - from) % 2 ≡ 0) × (b * (count - from - 1) < 64) × (count ≤ length (now buffer)) ⌝ }
+    ensures { λ _. ⌜ Onward (lastNumeral (2 ^ b) count value) from count (now (buffer .entry)) (now (buffer .exit)) ⌝ }
 {
-    (v & 1023) as usize
-}
-
-// The last count digits in radix 32, two at a time from the table, and an odd one by shifts.
-fn radix_32_pairs(value: u64, count: usize, buffer: &mut [u8])
-    requires { ⌜ count ≤ length (now buffer) ⌝ }
-    ensures { λ _. ⌜ now (buffer .exit) ≡ lastNumeral 32 count value ++ drop count (now (buffer .entry)) ⌝ }
-{
-    let table = &DIGIT_TO_BASE32_SQUARED;
-    let mut i = count;
-    let mut v = value;
-    while 2 <= i {
-        let pair = last_pair(v);
-        i -= 1;
-        buffer[i] = table_byte(table, 2 * pair + 1);
-        i -= 1;
-        buffer[i] = table_byte(table, 2 * pair);
-        v = v >> 10;
+    let mut at = from;
+    while at < count {
+        at = step_pairs(table, value, b, count, at, buffer);
     }
-    radix(v, 5, i, buffer);
 }
 
-// The same, without the table where two digits are all: each call that uses it builds it first.
-pub(crate) fn radix_32(value: u64, count: usize, buffer: &mut [u8])
-    requires { ⌜ count ≤ length (now buffer) ⌝ }
-    ensures { λ _. ⌜ now (buffer .exit) ≡ lastNumeral 32 count value ++ drop count (now (buffer .entry)) ⌝ }
+// The same in radix 32. Where nothing is left its table is not named: a call that names it builds it first.
+fn radix_32(value: u64, count: usize, from: usize, buffer: &mut [u8])
+    requires { ⌜ (from ≤ count) × ((count - from) % 2 ≡ 0) × (5 * (count - from - 1) < 64) × (count ≤ length (now buffer)) ⌝ }
+    ensures { λ _. ⌜ Onward (lastNumeral 32 count value) from count (now (buffer .entry)) (now (buffer .exit)) ⌝ }
 {
-    if count <= 2 {
-        radix(value, 5, count, buffer);
-    } else {
-        radix_32_pairs(value, count, buffer);
+    if from < count {
+        radix_pairs(&DIGIT_TO_BASE32_SQUARED, value, 5, count, from, buffer);
+    }
+}
+
+// From so many digits on to the last. Two calls come here, so that the compiler keeps it apart: within the float writer it would take the registers of all else.
+pub(crate) fn radix_by_bits(value: u64, b: u32, count: usize, from: usize, buffer: &mut [u8])
+    requires { ⌜ (0 < b) × (b ≤ 5) × (from ≤ count) × (b * (count - from - 1) < 64) × (count ≤ length (now buffer)) ⌝ }
+    ensures { λ _. ⌜ Onward (lastNumeral (2 ^ b) count value) from count (now (buffer .entry)) (now (buffer .exit)) ⌝ }
+{
+    let at = odd_digit(value, b, count, from, buffer);
+    match b {
+        1 => radix_pairs(&DIGIT_TO_BASE2_SQUARED, value, 1, count, at, buffer),
+        5 => radix_32(value, count, at, buffer),
+        _ => radix(value, b, count, at, buffer),
     }
 }

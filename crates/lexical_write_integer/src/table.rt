@@ -40,18 +40,13 @@ pub(crate) const DIGIT_TO_BASE32_SQUARED: [u8; 2048] = *b"\
     V0V1V2V3V4V5V6V7V8V9VAVBVCVDVEVFVGVHVIVJVKVLVMVNVOVPVQVRVSVTVUVV\
     ";
 
-// A byte of a table that the caller lends: a constant that is indexed where it is named is built anew at each use.
-pub(crate) fn table_byte(table: &[u8; 2048], k: usize) -> u8
-    requires { ⌜ k < 2048 ⌝ }
-    ensures { λ r. ⌜ r ≡ getD (now (table .entry)) k 0 ⌝ }
-{
-    table[k]
-}
+// Those of radix 2.
+pub(crate) const DIGIT_TO_BASE2_SQUARED: [u8; 8] = *b"00011011";
 
 // The digits of every radix.
 pub(crate) const DIGIT_TO_CHAR: [u8; 32] = *b"0123456789ABCDEFGHIJKLMNOPQRSTUV";
 
-// A digit's byte from that table, lent by the caller as the other is: in a loop it takes half the time of a comparison for each digit.
+// A digit's byte from that table, which the caller lends: a constant that is indexed where it is named is built anew at each use. In a loop it takes half the time of a comparison for each digit.
 pub(crate) fn lent_char(table: &[u8; 32], digit: usize) -> u8
     requires { ⌜ digit < 32 ⌝ }
     ensures { λ r. ⌜ r ≡ getD (now (table .entry)) digit 0 ⌝ }

@@ -1,31 +1,28 @@
 // Derived from lexical-write-integer/src/write.rs, changed: radix and least width are arguments, and refusals stand for assertions.
 ghost use mathlib.Core.Path.{_≡_};
 ghost use mathlib.Core.Bool.{true};
-ghost use mathlib.Core.List.{_++_};
-ghost use Prim.Native.Nat.{_≤_};
-ghost use lib.ListN.{length, drop};
+ghost use Prim.Native.Nat.{_-_, _*_, _≤_, _<_};
+ghost use lib.ListN.{length};
 ghost use Rattle.lexical_util.specs.Answer.{written, held, ofWritten};
-ghost use Rattle.lexical_util.specs.Digit.{isRadix};
+ghost use Rattle.lexical_util.specs.Digit.{isRadix, digitBits};
+ghost use Rattle.lexical_write_integer_spec.specs.Front.{begun};
 ghost use Rattle.lexical_write_integer_spec.specs.Write.{lastNumeral, digitsText};
-use crate::binary::radix_by_bits;
 use crate::count::digit_count;
 use crate::decimal::decimal;
-use crate::radix::radix_32;
+use crate::radix::radix_by_bits;
 use lexical_util::Refusal;
 use lexical_util::Written;
 use lexical_util::digit_bits;
 
 // The last count digits of value by the loop of the radix.
 fn write_digits(value: u64, base: u32, count: usize, buffer: &mut [u8])
-    requires { ⌜ (isRadix base ≡ true) × (count ≤ length (now buffer)) ⌝ }
-    ensures { λ _. ⌜ now (buffer .exit) ≡ lastNumeral base count value ++ drop count (now (buffer .entry)) ⌝ }
+    requires { ⌜ (isRadix base ≡ true) × (digitBits base * (count - 1) < 64) × (count ≤ length (now buffer)) ⌝ }
+    ensures { λ _. ⌜ now (buffer .exit) ≡ begun (lastNumeral base count value) count (now (buffer .entry)) ⌝ }
 {
     if base == 10 {
         decimal(value, count, buffer);
-    } else if base == 32 {
-        radix_32(value, count, buffer);
     } else {
-        radix_by_bits(value, digit_bits(base), count, buffer);
+        radix_by_bits(value, digit_bits(base), count, 0, buffer);
     }
 }
 

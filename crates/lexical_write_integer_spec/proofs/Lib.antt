@@ -5,4 +5,8 @@ pub mod DigitsLaws
 pub mod NumeralLaws
 pub mod LastLaws
 pub mod SplitLaws
+pub mod FrontLaws
+pub mod StepAnswer
+pub mod StepsClaims
+pub mod Worked
 pub mod DigitsClaims

@@ -1,13 +1,15 @@
--- What the laws of a number's digits, and of its last ones, say. Statements only; `DigitsClaims` proves them.
-use Prim.Native.Nat.{ℕ, _+_, _-_, _/_, _^_, _<_, max}
+-- What the laws of a number's digits, of its last ones, and of filling from the front say. Statements only; `DigitsClaims` and `StepsClaims` prove them.
+use Prim.Native.Nat.{ℕ, _+_, _-_, _/_, _^_, _≤_, _<_, max}
 use mathlib.Core.Path.{_≡_}
 use mathlib.Core.Logic.{_≢_}
-use mathlib.Core.List.{_++_}
+use mathlib.Core.List.{List, _++_}
 use lib.ListN.{length, getD}
 use lib.Ieee.{size}
+use Rattle.lexical_util.specs.Answer.{done, held}
 use Rattle.lexical_util.specs.Digit.{AreDigits, digitsValue}
 use Rattle.lexical_write_integer_spec.specs.Digits.{digits, widened, numeral}
-use Rattle.lexical_write_integer_spec.specs.Write.{lastNumeral}
+use Rattle.lexical_write_integer_spec.specs.Write.{lastNumeral, digitsText}
+use Rattle.lexical_write_integer_spec.specs.Front.{begun, stepsText, afterSteps}
 
 -- read back, the digits are the number, whatever the width
 abbrev pub ReadBack : Type 0
@@ -32,3 +34,13 @@ LastJoin = (radix j k x : ℕ) → lastNumeral radix (j + k) x ≡ lastNumeral r
 -- as many of them as there are digits are the digits
 abbrev pub LastAreAll : Type 0
 LastAreAll = (radix width x : ℕ) → 1 < radix → lastNumeral radix (length (numeral radix width x)) x ≡ numeral radix width x
+
+-- a call that has room leaves its text begun and ended: all of it stands, and the rest is as lent
+abbrev pub HeldIsBegun : Type 0
+HeldIsBegun = (text out : List ℕ) → length text ≤ length out → held (done text) out ≡ begun text (length text) out
+
+-- in a radix that is filled from the front, steps from the first digit to the last leave what the digits call leaves
+abbrev pub StepsMakeTheCall : Type 0
+StepsMakeTheCall =
+    (x radix width : ℕ) (text out : List ℕ) → stepsText x radix width ≡ done text → length text ≤ length out
+    → (digitsText x radix width ≡ done text) × (afterSteps text (length text) 0 out ≡ held (digitsText x radix width) out)

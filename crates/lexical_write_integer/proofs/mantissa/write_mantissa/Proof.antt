@@ -5,6 +5,7 @@ use native.Mathlib.Omega.{arith}
 use borrow.Author.Needs.{needs}
 use borrow.Author.Tests.{ltb-true, ltb-false}
 use denote.Ref.{now}
+use Rattle.lexical_write_integer_spec.proofs.FrontLaws.{onward-more, onward-all}
 use Rattle.lexical_write_integer_spec.proofs.MantissaAnswer.{unknown, short, fits}
 use Rattle.lexical_write_integer.proofs.mantissa.write_mantissa.Statement.{statement}
 use Rattle.lexical_write_integer.proofs.mantissa.write_mantissa.Tie as tie
@@ -19,6 +20,9 @@ returns-2 c =
     let a = c .before .before .before .before .args in
     short (a .value) (a .bits-per-digit) (a .count) (now (a .buffer)) (omega arith) (omega (arith, ltb-false)) (omega arith)
 
+zeros-in-front-requires : tie.Need-zeros-in-front-requires
+zeros-in-front-requires c κs = search needs
+
 radix-by-bits-requires : tie.Need-radix-by-bits-requires
 radix-by-bits-requires c κs = search needs
 
@@ -27,9 +31,10 @@ same-length c = search needs
 
 returns-3 : tie.Need-returns-3
 returns-3 c =
-    let a = c .before .before .before .before .before .before .before .before .args in
+    let z = c .before .before .before .before .before .before in
+    let a = z .before .before .before .before .before .before .args in
     let f = fits (a .value) (a .bits-per-digit) (a .count) (now (a .buffer)) (omega arith) (omega (arith, ltb-false)) (omega arith) in
-    (f .0, c .before .before .radix-by-bits .ensures ∙ f .1)
+    (f .0, onward-all _ _ _ _ (onward-more (z .zeros-in-front .ensures .1 (a .value) (omega arith)) (c .before .before .radix-by-bits .ensures)) ∙ f .1)
 
 pub write-mantissa-spec : {M : Type 1} → statement M
-write-mantissa-spec = tie.close (tie.spec returns returns-2 radix-by-bits-requires same-length returns-3)
+write-mantissa-spec = tie.close (tie.spec returns returns-2 zeros-in-front-requires radix-by-bits-requires same-length returns-3)

@@ -6,6 +6,7 @@ use borrow.Author.Needs.{needs}
 use borrow.Author.Tests.{not-true, not-false}
 use denote.Ref.{now}
 use Rattle.lexical_util.specs.Digit.{isRadix, isWidth}
+use Rattle.lexical_write_integer_spec.proofs.CountLaws.{count-room}
 use Rattle.lexical_write_integer_spec.proofs.DigitsAnswer.{fits, short, unknown, no-width}
 use Rattle.lexical_write_integer.proofs.write.write_integer.Statement.{statement}
 use Rattle.lexical_write_integer.proofs.write.write_integer.Tie as tie
@@ -35,7 +36,12 @@ returns-3 c =
     short (a .value) (a .radix) (a .width) _ (now (a .buffer)) (known e) (wide w) (c .before .digit-count .ensures) (omega arith)
 
 write-digits-requires : tie.Need-write-digits-requires
-write-digits-requires c κs = (known (c .before .before .before .before .before), omega arith)
+write-digits-requires c κs =
+    let n = c .before .before in
+    let w = n .before in
+    let e = w .before .before in
+    let a = e .before .before .before .args in
+    (known e, count-room (a .value) (a .radix) (a .width) _ (known e) (wide w) (omega arith) (n .digit-count .ensures), omega arith)
 
 returns-4 : tie.Need-returns-4
 returns-4 c =

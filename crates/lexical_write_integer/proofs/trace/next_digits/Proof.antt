@@ -1,0 +1,66 @@
+-- `lexical_write_integer::trace::next_digits` meets its contract: a step of one digit or of two, as many as are to be added. Assumes nothing.
+use Prim.Native.Nat.{_-_}
+use mathlib.Core.Path.{_≡_}
+use native.Mathlib.Omega.{arith}
+use borrow.Author.Needs.{needs}
+use Rattle.lexical_util.specs.Digit.{digitByte}
+use Rattle.lexical_write_integer_spec.proofs.StepAnswer.{step-odd, step-even}
+use Rattle.lexical_write_integer.specs.Table.{pairByte}
+use Rattle.lexical_write_integer.proofs.PairLaws.{chars-follow, pairs-follow}
+use Rattle.lexical_write_integer.proofs.StepLaws.{shorter}
+use Rattle.lexical_write_integer.proofs.trace.next_digits.Statement.{statement}
+use Rattle.lexical_write_integer.proofs.trace.next_digits.Tie as tie
+
+step-requires : tie.Need-step-requires
+unfolding digitByte
+step-requires c κs =
+    let s = c .before .before .before .before in
+    (chars-follow, omega arith, omega arith, omega arith, omega arith, omega arith, shorter (s .args .b) _ _ (omega arith) (s .pre .3), omega arith)
+
+returns : tie.Need-returns
+returns c =
+    let s = c .before .before .before .before .before .before .before in
+    let e = c .before .before .step .ensures in
+    rw (step-odd (s .args .count - s .args .at) (omega arith)) (e .0, e .1 .0)
+
+step-pairs-requires : tie.Need-step-pairs-requires
+unfolding pairByte digitByte
+step-pairs-requires c κs =
+    let s = c .before .before .before .before .before in
+    let five : s .args .b ≡ 5 = omega arith in
+    (pairs-follow 5, omega arith, omega arith, omega arith, rw five at (shorter (s .args .b) (s .args .count - s .args .at - 2) _ (omega arith) (s .pre .3)), omega arith)
+
+returns-2 : tie.Need-returns-2
+returns-2 c =
+    let s = c .before .before .before .before .before .before .before .before in
+    let five : s .args .b ≡ 5 = omega arith in
+    let e = c .before .before .step-pairs .ensures in
+    rw (step-even (s .args .count - s .args .at) (omega arith) (omega arith), five) (e .0, e .1 .0)
+
+step-requires-2 : tie.Need-step-requires-2
+unfolding digitByte
+step-requires-2 c κs =
+    let s = c .before .before .before .before .before in
+    (chars-follow, omega arith, omega arith, omega arith, omega arith, omega arith, shorter (s .args .b) _ _ (omega arith) (s .pre .3), omega arith)
+
+returns-3 : tie.Need-returns-3
+returns-3 c =
+    let s = c .before .before .before .before .before .before .before .before in
+    let e = c .before .before .step2 .ensures in
+    rw (step-even (s .args .count - s .args .at) (omega arith) (omega arith)) (e .0, e .1 .0)
+
+pub next-digits-spec : {M : Type 1} → statement M
+next-digits-spec =
+    tie.close
+    (tie.spec
+    (λ c. search needs)
+    step-requires
+    (λ c. search needs)
+    returns
+    (λ c. search needs)
+    step-pairs-requires
+    (λ c. search needs)
+    returns-2
+    step-requires-2
+    (λ c. search needs)
+    returns-3)
