@@ -27,11 +27,15 @@ def integer(value, radix, width, room):
     return text if len(text) <= room else 8
 
 
+def asked(value, radix, width, shown):
+    return f"{radix} {value} {'' if width == 1 else f'width {width} '}{shown}"
+
+
 def digits_asked(value, radix, width, room):
     answer = integer(value, radix, width, room)
     shown = f"refused {answer} at 0" if isinstance(answer, int) else answer
     text = "" if isinstance(answer, int) else answer
-    return f"{radix} {value} {'' if width == 1 else f'width {width} '}{shown}", text
+    return asked(value, radix, width, shown), text
 
 
 def digits_line(value, radix, width):
@@ -42,6 +46,13 @@ def room_lines(value, radix, width):
     for room in (6, 4, 3, 2, 1, 0):
         line, text = digits_asked(value, radix, width, room)
         yield f"{line} [{text.ljust(room, '.')}]"
+
+
+def last_line(value, bits, count, room):
+    """The last digits of a value, zeros in front where it has fewer."""
+    refused = 2 if not 1 <= bits <= 5 else 8 if count > room else 0
+    text = "" if refused else "".join(DIGITS[value >> bits * place & 2**bits - 1] for place in reversed(range(count)))
+    return f"last {count} of {bits} bits {value} {f'refused {refused} at 0' if refused else text} [{text.ljust(room, '.')}]"
 
 
 def digit_lines():
@@ -57,6 +68,43 @@ def digit_lines():
         yield digits_line(value, 3, 0)
     for width in (3, 0):
         yield from room_lines(5, 10, width)
+    for value in (0, 1234567, 2**64 - 1):
+        for bits, count, room in ((1, 70, 72), (2, 33, 33), (3, 23, 24), (4, 5, 6), (5, 14, 14), (5, 13, 14), (5, 2, 3), (5, 0, 1), (0, 1, 1), (6, 2, 1), (5, 2, 1)):
+            yield last_line(value, bits, count, room)
+
+
+# ---- the same step by step
+
+class Steps:
+    """Lent bytes, into which the digits come from the front: one where an odd number of them is left, else two."""
+
+    def __init__(self, value, radix, width, room, at=0):
+        self.asked, self.at, self.bytes = (value, radix, width), at, "." * room
+
+    def line(self):
+        value, radix, width = self.asked
+        answer = 2 if radix == 10 else integer(value, radix, width, len(self.bytes))
+        if isinstance(answer, int):
+            shown = f"refused {answer} at 0"
+        else:
+            left = max(len(answer) - self.at, 0)
+            more = answer[self.at:self.at + (2 if left % 2 == 0 else 1)]
+            self.bytes = self.bytes[:self.at] + more + self.bytes[self.at + len(more):]
+            self.at += len(more)
+            shown = self.at
+        return f"{asked(value, radix, width, shown)} [{self.bytes}]"
+
+
+def step_lines():
+    for value, radix, width, room in (
+            (1234567, 2, 1, 24), (1234567, 4, 1, 12), (1234567, 8, 1, 9), (1234567, 16, 1, 8), (1234567, 32, 1, 8), (2**64 - 1, 8, 1, 22), (2**64 - 1, 32, 1, 13),
+            (0, 2, 1, 3), (0, 32, 4, 5), (5, 16, 3, 5), (5, 2, 4, 5)):
+        steps = Steps(value, radix, width, room)
+        for _ in range(-(-len(digits(value, radix, width)) // 2) + 1):
+            yield steps.line()
+    for radix, width, room, at in (
+            (16, 1, 8, 1), (32, 1, 8, 3), (16, 1, 8, 7), (16, 1, 8, 9), (7, 0, 8, 0), (10, 0, 8, 0), (16, 0, 8, 0), (16, 5, 5, 0), (16, 1, 5, 0), (16, 1, 5, 4)):
+        yield Steps(1234567, radix, width, room, at).line()
 
 
 # ---- floats: stored bits of the mantissa, bias, and how Python unpacks the bits
@@ -356,6 +404,6 @@ def refusal_lines():
             yield text_line(width, bits_of(width, -math.inf), case, 0)
 
 
-for lines in (digit_lines, float_lines, order_lines, exponent_lines, format_lines, text_lines):
+for lines in (digit_lines, step_lines, float_lines, order_lines, exponent_lines, format_lines, text_lines):
     for line in lines():
         print(line)

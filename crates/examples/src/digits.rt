@@ -1,9 +1,10 @@
 // Integer digits, in each radix and width, and in bytes that may be too few.
 use crate::print;
 use lexical_write_integer::write_integer;
+use lexical_write_integer::write_mantissa;
 
 // The radix and the value that an example is about, and the width where it is not 1.
-fn print_asked(value: u64, radix: u32, width: u32) {
+pub(crate) fn print_asked(value: u64, radix: u32, width: u32) {
     print::number(radix as u64);
     print::text(b" ");
     print::number(value);
@@ -41,6 +42,37 @@ fn each_radix(value: u64, width: u32) {
     digits_line(value, 10, width);
     digits_line(value, 16, width);
     digits_line(value, 32, width);
+}
+
+// The last digits of a value, of so many bits each: `last <count> of <bits> bits <value> <text> [<bytes>]`.
+fn last_line(value: u64, bits: u32, count: usize, out: &mut [u8]) {
+    let answer = write_mantissa(value, bits, count, out);
+    print::text(b"last ");
+    print::number(count as u64);
+    print::text(b" of ");
+    print::number(bits as u64);
+    print::text(b" bits ");
+    print::number(value);
+    print::text(b" ");
+    print::answer(answer, out);
+    print::text(b" [");
+    print::text(out);
+    print::text(b"]\n");
+}
+
+// More digits than a u64 has, fewer than the value has, none; then the refusals.
+fn each_last(value: u64) {
+    last_line(value, 1, 70, &mut [b'.'; 72]);
+    last_line(value, 2, 33, &mut [b'.'; 33]);
+    last_line(value, 3, 23, &mut [b'.'; 24]);
+    last_line(value, 4, 5, &mut [b'.'; 6]);
+    last_line(value, 5, 14, &mut [b'.'; 14]);
+    last_line(value, 5, 13, &mut [b'.'; 14]);
+    last_line(value, 5, 2, &mut [b'.'; 3]);
+    last_line(value, 5, 0, &mut [b'.'; 1]);
+    last_line(value, 0, 1, &mut [b'.'; 1]);
+    last_line(value, 6, 2, &mut [b'.'; 1]);
+    last_line(value, 5, 2, &mut [b'.'; 1]);
 }
 
 // Bytes to spare, as many as the text has, and fewer.
@@ -83,4 +115,7 @@ pub(crate) fn run() {
     each_width(1000);
     each_room(5, 10, 3);
     each_room(5, 10, 0);
+    each_last(0);
+    each_last(1234567);
+    each_last(18446744073709551615);
 }

@@ -5,10 +5,12 @@ mod floats;
 mod formats;
 mod order;
 mod print;
+mod steps;
 mod texts;
 
 fn main() {
     digits::run();
+    steps::run();
     floats::run();
     order::run();
     exponents::run();
