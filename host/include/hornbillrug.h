@@ -86,7 +86,8 @@ typedef struct {
 } lexical_station_answer;
 
 /* The digits of a number in radix 2, 4, 8, 10, 16 or 32, with zeros in front up to the least width,
- * 1 to 4. */
+ * 1 to 4. But for radix 10 the leading digit is stored first, and the others behind it, one or two at
+ * a time. */
 lexical_answer lexical_write_integer(uint64_t value, uint32_t radix, uint32_t width,
                                      uint8_t *buffer, size_t length);
 

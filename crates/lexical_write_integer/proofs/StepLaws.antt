@@ -1,9 +1,8 @@
 -- A step by its stores, over the radix: what is stored behind the bytes so far are the text's next. Assumes nothing.
-use Prim.Native.Nat.{ℕ, suc, _+_, _-_, _*_, _/_, _%_, _^_, _≤_, _<_}
+use Prim.Native.Nat.{ℕ, _+_, _-_, _*_, _/_, _%_, _^_, _≤_, _<_}
 use mathlib.Core.Path.{_≡_, refl, sym, ap, _∙_}
 use mathlib.Core.List.{List, [], _∷_, _++_, append-assoc}
 use native.Mathlib.Nat.{mul-le-mul-left, mul-le-mul-right, one-mul, mul-one, mul-add, mul-comm, mul-div-le, lt-div-mul-add, lt-of-le-of-lt, lt-of-lt-of-le, le-trans, div-eq-of-lt, zero-mod}
-use native.Mathlib.Numerals.{add-one}
 use native.Mathlib.Omega.{arith}
 use lib.ListN.{length, take, drop, set}
 use lib.Pow.{pow-mono}

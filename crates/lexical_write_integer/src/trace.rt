@@ -9,13 +9,14 @@ ghost use Rattle.lexical_write_integer_spec.specs.Write.{lastNumeral};
 use crate::count::digit_count;
 use crate::front::step;
 use crate::front::step_pairs;
+use crate::table::DIGIT_TO_BASE2_SQUARED;
 use crate::table::DIGIT_TO_BASE32_SQUARED;
 use crate::table::DIGIT_TO_CHAR;
 use lexical_util::Refusal;
 use lexical_util::Written;
 use lexical_util::digit_bits;
 
-// One digit where an odd number is left, else two.
+// One digit where an odd number is left, else two, by the very step of the radix's loop.
 fn next_digits(value: u64, b: u32, count: usize, at: usize, buffer: &mut [u8]) -> usize
     requires { ⌜ (0 < b) × (b ≤ 5) × (at < count) × (b * (count - 1) < 64) × (count ≤ length (now buffer)) ⌝ }
     ensures { λ r. ⌜ r ≡ at + stepLength (count - at) ⌝ }
@@ -24,10 +25,11 @@ fn next_digits(value: u64, b: u32, count: usize, at: usize, buffer: &mut [u8]) -
     if (count - at) % 2 == 1 {
         return step(&DIGIT_TO_CHAR, value, b, count, at, 1, buffer);
     }
-    if b == 5 {
-        return step_pairs(&DIGIT_TO_BASE32_SQUARED, value, 5, count, at, buffer);
+    match b {
+        1 => step_pairs(&DIGIT_TO_BASE2_SQUARED, value, 1, count, at, buffer),
+        5 => step_pairs(&DIGIT_TO_BASE32_SQUARED, value, 5, count, at, buffer),
+        _ => step(&DIGIT_TO_CHAR, value, b, count, at, 2, buffer),
     }
-    step(&DIGIT_TO_CHAR, value, b, count, at, 2, buffer)
 }
 
 // Of the digits of value in the radix the first `at` stand at the front of the buffer: the next one or two are added, and the answer is how many stand then. Where all stand, nothing is added. A refusal leaves every byte as it was.

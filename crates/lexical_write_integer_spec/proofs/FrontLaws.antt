@@ -1,10 +1,10 @@
 -- Filling from the front: which digits come next, and how the bytes so far grow, step by step. Assumes nothing.
-use Prim.Native.Nat.{ℕ, _+_, _-_, _/_, _%_, _^_, _≤_, _<_}
+use Prim.Native.Nat.{ℕ, _+_, _-_, _/_, _^_, _≤_}
 use mathlib.Core.Path.{_≡_, refl, sym, ap, _∙_}
 use mathlib.Core.List.{List, _++_, append-assoc}
 use native.Mathlib.Omega.{arith}
 use lib.ListN.{length, take, drop}
-use lib.Seq.{take-at, drop-at, take-add, take-length, drop-append-add, drop-drop, length-take-le}
+use lib.Seq.{take-at, drop-at, take-add, take-length, drop-drop, length-take-le}
 use Rattle.lexical_write_integer_spec.specs.Write.{lastNumeral}
 use Rattle.lexical_write_integer_spec.specs.Front.{begun, Onward}
 use Rattle.lexical_write_integer_spec.proofs.LastLaws.{length-last, last-add}

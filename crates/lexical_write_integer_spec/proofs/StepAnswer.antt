@@ -1,6 +1,6 @@
 -- What a step by itself answers and leaves in the lent bytes, in each of its cases. Assumes nothing.
-use Prim.Native.Nat.{ℕ, _+_, _-_, _%_, _≤_, _<_, min}
-use mathlib.Core.Path.{_≡_, refl, sym, ap, _∙_}
+use Prim.Native.Nat.{ℕ, _+_, _-_, _%_, _≤_, _<_}
+use mathlib.Core.Path.{_≡_, refl, sym, _∙_}
 use mathlib.Core.Bool.{Bool, true, false}
 use mathlib.Core.List.{List, _++_}
 use mathlib.Core.Logic.{_⊎_, inl, inr}
@@ -13,7 +13,7 @@ use Rattle.lexical_util.specs.Answer.{Answer, done, refused}
 use Rattle.lexical_util.specs.Digit.{isRadix, isWidth}
 use Rattle.lexical_util.proofs.AnswerLaws.{refused-done, done-same}
 use Rattle.lexical_write_integer_spec.specs.Digits.{numeral}
-use Rattle.lexical_write_integer_spec.specs.Front.{begun, Onward, stepLength, stepsText, stepWritten, stepHeld, Adds, StepAdds}
+use Rattle.lexical_write_integer_spec.specs.Front.{begun, stepLength, stepsText, stepWritten, stepHeld, Adds, StepAdds}
 use Rattle.lexical_write_integer_spec.proofs.FrontLaws.{onward-step}
 
 -- ---- how many bytes a step adds

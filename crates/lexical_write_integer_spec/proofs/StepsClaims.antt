@@ -8,11 +8,10 @@ use borrow.Author.Tests.{le-leb, not-false}
 use lib.Dec.{eqb}
 use lib.ListN.{length, take, drop, length-append, length-drop}
 use lib.Seq.{length-take-le}
-use Rattle.lexical_util.specs.Answer.{done, held}
+use Rattle.lexical_util.specs.Answer.{done}
 use Rattle.lexical_util.specs.Digit.{isRadix, isWidth}
 use Rattle.lexical_util.proofs.AnswerLaws.{passed, text-fits}
 use Rattle.lexical_write_integer_spec.specs.Digits.{numeral}
-use Rattle.lexical_write_integer_spec.specs.Write.{digitsText}
 use Rattle.lexical_write_integer_spec.specs.Front.{begun, stepLength, stepsText, stepHeld, afterSteps}
 use Rattle.lexical_write_integer_spec.specs.Claims.{HeldIsBegun, StepsMakeTheCall}
 use Rattle.lexical_write_integer_spec.proofs.DigitsAnswer.{asked}

@@ -19,23 +19,23 @@ step-requires c κs =
 
 returns : tie.Need-returns
 returns c =
-    let s = c .before .before .before .before .before .before .before in
+    let a = c .before .before .before .before .before .before .before .args in
     let e = c .before .before .step .ensures in
-    rw (step-odd (s .args .count - s .args .at) (omega arith)) (e .0, e .1 .0)
+    rw (step-odd (a .count - a .at) (omega arith)) (e .0, e .1 .0)
 
 step-pairs-requires : tie.Need-step-pairs-requires
 unfolding pairByte digitByte
 step-pairs-requires c κs =
     let s = c .before .before .before .before .before in
+    let one : s .args .b ≡ 1 = omega arith in
+    (pairs-follow 1, omega arith, omega arith, omega arith, rw one at (shorter (s .args .b) (s .args .count - s .args .at - 2) _ (omega arith) (s .pre .3)), omega arith)
+
+step-pairs-requires-2 : tie.Need-step-pairs-requires-2
+unfolding pairByte digitByte
+step-pairs-requires-2 c κs =
+    let s = c .before .before .before .before .before in
     let five : s .args .b ≡ 5 = omega arith in
     (pairs-follow 5, omega arith, omega arith, omega arith, rw five at (shorter (s .args .b) (s .args .count - s .args .at - 2) _ (omega arith) (s .pre .3)), omega arith)
-
-returns-2 : tie.Need-returns-2
-returns-2 c =
-    let s = c .before .before .before .before .before .before .before .before in
-    let five : s .args .b ≡ 5 = omega arith in
-    let e = c .before .before .step-pairs .ensures in
-    rw (step-even (s .args .count - s .args .at) (omega arith) (omega arith), five) (e .0, e .1 .0)
 
 step-requires-2 : tie.Need-step-requires-2
 unfolding digitByte
@@ -43,11 +43,25 @@ step-requires-2 c κs =
     let s = c .before .before .before .before .before in
     (chars-follow, omega arith, omega arith, omega arith, omega arith, omega arith, shorter (s .args .b) _ _ (omega arith) (s .pre .3), omega arith)
 
+returns-2 : tie.Need-returns-2
+returns-2 c =
+    let a = c .before .before .before .before .before .before .before .before .args in
+    let one : a .b ≡ 1 = omega arith in
+    let e = c .before .before .step-pairs .ensures in
+    rw (step-even (a .count - a .at) (omega arith) (omega arith), one) (e .0, e .1 .0)
+
 returns-3 : tie.Need-returns-3
 returns-3 c =
-    let s = c .before .before .before .before .before .before .before .before in
+    let a = c .before .before .before .before .before .before .before .before .args in
+    let five : a .b ≡ 5 = omega arith in
+    let e = c .before .before .step-pairs2 .ensures in
+    rw (step-even (a .count - a .at) (omega arith) (omega arith), five) (e .0, e .1 .0)
+
+returns-4 : tie.Need-returns-4
+returns-4 c =
+    let a = c .before .before .before .before .before .before .before .before .args in
     let e = c .before .before .step2 .ensures in
-    rw (step-even (s .args .count - s .args .at) (omega arith) (omega arith)) (e .0, e .1 .0)
+    rw (step-even (a .count - a .at) (omega arith) (omega arith)) (e .0, e .1 .0)
 
 pub next-digits-spec : {M : Type 1} → statement M
 next-digits-spec =
@@ -60,7 +74,11 @@ next-digits-spec =
     (λ c. search needs)
     step-pairs-requires
     (λ c. search needs)
-    returns-2
+    step-pairs-requires-2
     step-requires-2
     (λ c. search needs)
-    returns-3)
+    returns-2
+    (λ c. search needs)
+    returns-3
+    (λ c. search needs)
+    returns-4)
