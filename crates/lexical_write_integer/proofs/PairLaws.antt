@@ -9,17 +9,17 @@ use lib.Pow.{pow-pos, field, mod-mod-pow}
 use Rattle.lexical_util.specs.Digit.{digitByte}
 use Rattle.lexical_util.proofs.TableLaws.{tab, tab-at}
 use Rattle.lexical_write_integer_spec.specs.Write.{lastNumeral}
-use Rattle.lexical_write_integer.specs.Table.{pairByte, Pairs, Chars}
+use Rattle.lexical_write_integer.specs.Table.{pairByte, PairTable, DigitTable}
 
 -- a table that is computed from the rule follows it; that the code's is that one, antt compares where it is lent
-pub chars-follow : Chars (tab digitByte 0 32)
+pub chars-follow : DigitTable (tab digitByte 0 32)
 chars-follow = record { at = λ k h. tab-at digitByte 32 k h }
 
 length-tab : (f : ℕ → ℕ) (i n : ℕ) → length (tab f i n) ≡ n
 length-tab f i zero = refl
 length-tab f i (suc n) = ap suc (length-tab f (suc i) n)
 
-pub pairs-follow : (b : ℕ) → Pairs b (tab (pairByte (2 ^ b)) 0 (2 * 2 ^ (b + b)))
+pub pairs-follow : (b : ℕ) → PairTable b (tab (pairByte (2 ^ b)) 0 (2 * 2 ^ (b + b)))
 pairs-follow b =
     let n = 2 * 2 ^ (b + b) in
     record { size = length-tab (pairByte (2 ^ b)) 0 n; at = λ k h. tab-at (pairByte (2 ^ b)) n k h }
@@ -40,7 +40,7 @@ pair-last r q =
     rw (e, h)
 
 -- they are the last two digits of a number
-pub pair-digits : (b : ℕ) (table : List ℕ) → Pairs b table → (v a d : ℕ) → a ≡ getD table (2 * (v % 2 ^ (b + b))) 0 → d ≡ getD table (2 * (v % 2 ^ (b + b)) + 1) 0 → a ∷ d ∷ [] ≡ lastNumeral (2 ^ b) 2 v
+pub pair-digits : (b : ℕ) (table : List ℕ) → PairTable b table → (v a d : ℕ) → a ≡ getD table (2 * (v % 2 ^ (b + b))) 0 → d ≡ getD table (2 * (v % 2 ^ (b + b)) + 1) 0 → a ∷ d ∷ [] ≡ lastNumeral (2 ^ b) 2 v
 unfolding lastNumeral
 pair-digits b table rule v a d at-first at-last =
     let q = v % 2 ^ (b + b) in

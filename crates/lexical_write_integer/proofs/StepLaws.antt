@@ -9,14 +9,14 @@ use lib.Pow.{pow-mono}
 use lib.Seq.{sets, sets-eq, drop-drop}
 use Rattle.lexical_util.specs.Digit.{digitByte}
 use Rattle.lexical_write_integer_spec.specs.Write.{lastNumeral}
-use Rattle.lexical_write_integer_spec.specs.Front.{begun, Onward}
+use Rattle.lexical_write_integer_spec.specs.Front.{begun, Grows}
 use Rattle.lexical_write_integer_spec.proofs.DigitsLaws.{pow-mul}
-use Rattle.lexical_write_integer_spec.proofs.FrontLaws.{next-digits, onward-none, onward-more, onward-step}
+use Rattle.lexical_write_integer_spec.proofs.FrontLaws.{next-digits, grows-none, grows-more, grows-step}
 use Rattle.lexical_write_integer_spec.proofs.LastLaws.{length-last}
 
 -- what a step leaves, and that it goes on from the bytes so far
 abbrev pub Stepped : List ℕ → ℕ → ℕ → List ℕ → List ℕ → Type 0
-Stepped t k m o o′ = (o′ ≡ take k o ++ begun (drop k t) m (drop k o)) × Onward t k (k + m) o o′
+Stepped t k m o o′ = (o′ ≡ take k o ++ begun (drop k t) m (drop k o)) × Grows t k (k + m) o o′
 
 -- the digits of one or two, as bytes
 pub one-digit : (r v d : ℕ) → d ≡ digitByte (v % r) → d ∷ [] ≡ lastNumeral r 1 v
@@ -44,12 +44,12 @@ module _ (b x n k m : ℕ) (vs o : List ℕ) (inside : k + m ≤ n) (room : n �
       let count : length vs ≡ m = ap length next ∙ length-last (2 ^ b) m (x / 2 ^ (b * (n - k - m))) in
       let e : sets o k vs ≡ take k o ++ (take m (drop k t) ++ drop m (drop k o)) =
       sets-eq vs o k (rw count (omega arith)) ∙ rw (count, drop-drop m k o, are) (append-assoc (take k o) (take m (drop k t)) (drop (k + m) o)) in
-      (e, onward-step t o (sets o k vs) k m (rw (length-last (2 ^ b) n x) (omega arith)) e)
+      (e, grows-step t o (sets o k vs) k m (rw (length-last (2 ^ b) n x) (omega arith)) e)
 
 -- ---- a loop that goes by two
 -- from so many bytes on: how far the text has come, and that an even number is left
 pub record Filled (t : List ℕ) (from count : ℕ) (before now : List ℕ) (at : ℕ) : Type 0 where
-  pub onward : Onward t from at before now
+  pub grows : Grows t from at before now
   pub same : length now ≡ length before
   pub behind : from ≤ at
   pub within : at ≤ count
@@ -57,20 +57,20 @@ pub record Filled (t : List ℕ) (from count : ℕ) (before now : List ℕ) (at 
 
 module _ (t : List ℕ) (from count : ℕ) (before : List ℕ) where
   pub filled-none : from ≤ count → (count - from) % 2 ≡ 0 → Filled t from count before before from
-  filled-none h e = record { onward = onward-none t from before; same = refl; behind = omega arith; within = h; even = e }
+  filled-none h e = record { grows = grows-none t from before; same = refl; behind = omega arith; within = h; even = e }
 
-  pub filled-more : (now now′ : List ℕ) (at r : ℕ) → Filled t from count before now at → at < count → r ≡ at + 2 → length now′ ≡ length now → Onward t at r now now′ → Filled t from count before now′ r
+  pub filled-more : (now now′ : List ℕ) (at r : ℕ) → Filled t from count before now at → at < count → r ≡ at + 2 → length now′ ≡ length now → Grows t at r now now′ → Filled t from count before now′ r
   filled-more now now′ at r f l e k w =
       record {
-        onward = onward-more (f .onward) w;
+        grows = grows-more (f .grows) w;
         same = k ∙ f .same;
         behind = omega (arith, f .behind);
         within = omega (arith, f .within, f .even);
         even = omega (arith, f .within, f .even);
       }
 
-  pub filled-all : (now : List ℕ) (at : ℕ) → Filled t from count before now at → count ≤ at → Onward t from count before now
-  filled-all now at f l = let e : at ≡ count = omega (arith, f .within) in rw e at (f .onward)
+  pub filled-all : (now : List ℕ) (at : ℕ) → Filled t from count before now at → count ≤ at → Grows t from count before now
+  filled-all now at f l = let e : at ≡ count = omega (arith, f .within) in rw e at (f .grows)
 
 -- ---- digits above a u64's
 -- b bits times the most digits that a u64 has are at least 64, and times one fewer are less

@@ -12,10 +12,10 @@ unfoldable pub pairByte : ℕ → ℕ → ℕ
 pairByte radix k = let i = k / 2 in cond (eqb (k % 2) 0) (digitByte (i / radix)) (digitByte (i % radix))
 
 -- a table of radix 2 ^ b that follows the rule
-pub record Pairs (b : ℕ) (table : List ℕ) : Type 0 where
+pub record PairTable (b : ℕ) (table : List ℕ) : Type 0 where
   pub size : length table ≡ 2 * 2 ^ (b + b)
   pub at : (k : ℕ) → k < 2 * 2 ^ (b + b) → getD table k 0 ≡ pairByte (2 ^ b) k
 
 -- one of the 32 digits
-pub record Chars (table : List ℕ) : Type 0 where
+pub record DigitTable (table : List ℕ) : Type 0 where
   pub at : (k : ℕ) → k < 32 → getD table k 0 ≡ digitByte k

@@ -3,7 +3,7 @@ ghost use mathlib.Core.Path.{_≡_};
 ghost use Prim.Native.Nat.{ℕ, _-_, _*_, _^_, _≤_, _<_};
 ghost use lib.ListN.{length};
 ghost use Rattle.lexical_util.specs.Answer.{written, held, ofWritten};
-ghost use Rattle.lexical_write_integer_spec.specs.Front.{Onward};
+ghost use Rattle.lexical_write_integer_spec.specs.Front.{Grows};
 ghost use Rattle.lexical_write_integer_spec.specs.Write.{lastNumeral, mantissaText};
 use crate::radix::radix_by_bits;
 use lexical_exponent::quotient;
@@ -14,7 +14,7 @@ use lexical_util::Written;
 fn zeros_in_front(b: u32, count: usize, buffer: &mut [u8]) -> usize
     requires { ⌜ (0 < b) × (b ≤ 5) × (count ≤ length (now buffer)) ⌝ }
     ensures { λ r. ⌜ (r ≤ count) × (b * (count - r - 1) < 64) ⌝ }
-    ensures { λ r. ⌜ ((value : ℕ) → value < 2 ^ 64 → Onward (lastNumeral (2 ^ b) count value) 0 r (now (buffer .entry)) (now (buffer .exit))) ⌝ }
+    ensures { λ r. ⌜ ((value : ℕ) → value < 2 ^ 64 → Grows (lastNumeral (2 ^ b) count value) 0 r (now (buffer .entry)) (now (buffer .exit))) ⌝ }
 {
     let most = quotient(63, b) as usize + 1;
     let mut at: usize = 0;

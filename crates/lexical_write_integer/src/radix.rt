@@ -3,10 +3,10 @@ ghost use mathlib.Core.Path.{_≡_};
 ghost use Prim.Native.Nat.{_-_, _*_, _%_, _^_, _≤_, _<_};
 ghost use lib.ListN.{length};
 ghost use Rattle.lexical_write_integer_spec.specs.Write.{lastNumeral};
-ghost use Rattle.lexical_write_integer_spec.specs.Front.{Onward};
-ghost use Rattle.lexical_write_integer.specs.Table.{Pairs};
-use crate::front::step;
-use crate::front::step_pairs;
+ghost use Rattle.lexical_write_integer_spec.specs.Front.{Grows};
+ghost use Rattle.lexical_write_integer.specs.Table.{PairTable};
+use crate::front::step_by_digits;
+use crate::front::step_by_pair;
 use crate::table::DIGIT_TO_BASE2_SQUARED;
 use crate::table::DIGIT_TO_BASE32_SQUARED;
 use crate::table::DIGIT_TO_CHAR;
@@ -15,10 +15,10 @@ use crate::table::DIGIT_TO_CHAR;
 fn odd_digit(value: u64, b: u32, count: usize, from: usize, buffer: &mut [u8]) -> usize
     requires { ⌜ (0 < b) × (b ≤ 5) × (from ≤ count) × (b * (count - from - 1) < 64) × (count ≤ length (now buffer)) ⌝ }
     ensures { λ r. ⌜ (from ≤ r) × (r ≤ count) × ((count - r) % 2 ≡ 0) ⌝ }
-    ensures { λ r. ⌜ Onward (lastNumeral (2 ^ b) count value) from r (now (buffer .entry)) (now (buffer .exit)) ⌝ }
+    ensures { λ r. ⌜ Grows (lastNumeral (2 ^ b) count value) from r (now (buffer .entry)) (now (buffer .exit)) ⌝ }
 {
     if (count - from) % 2 == 1 {
-        return step(&DIGIT_TO_CHAR, value, b, count, from, 1, buffer);
+        return step_by_digits(&DIGIT_TO_CHAR, value, b, count, from, 1, buffer);
     }
     from
 }
@@ -26,30 +26,30 @@ fn odd_digit(value: u64, b: u32, count: usize, from: usize, buffer: &mut [u8]) -
 // From so many digits on to the last, two a step.
 fn radix(value: u64, b: u32, count: usize, from: usize, buffer: &mut [u8])
     requires { ⌜ (0 < b) × (b ≤ 5) × (from ≤ count) × ((count - from) % 2 ≡ 0) × (b * (count - from - 1) < 64) × (count ≤ length (now buffer)) ⌝ }
-    ensures { λ _. ⌜ Onward (lastNumeral (2 ^ b) count value) from count (now (buffer .entry)) (now (buffer .exit)) ⌝ }
+    ensures { λ _. ⌜ Grows (lastNumeral (2 ^ b) count value) from count (now (buffer .entry)) (now (buffer .exit)) ⌝ }
 {
     let table = &DIGIT_TO_CHAR;
     let mut at = from;
     while at < count {
-        at = step(table, value, b, count, at, 2, buffer);
+        at = step_by_digits(table, value, b, count, at, 2, buffer);
     }
 }
 
 // The same from a table of pairs.
 fn radix_pairs(table: &[u8], value: u64, b: u32, count: usize, from: usize, buffer: &mut [u8])
-    requires { ⌜ Pairs b (now table) × (0 < b) × (b ≤ 5) × (from ≤ count) × ((count - from) % 2 ≡ 0) × (b * (count - from - 1) < 64) × (count ≤ length (now buffer)) ⌝ }
-    ensures { λ _. ⌜ Onward (lastNumeral (2 ^ b) count value) from count (now (buffer .entry)) (now (buffer .exit)) ⌝ }
+    requires { ⌜ PairTable b (now table) × (0 < b) × (b ≤ 5) × (from ≤ count) × ((count - from) % 2 ≡ 0) × (b * (count - from - 1) < 64) × (count ≤ length (now buffer)) ⌝ }
+    ensures { λ _. ⌜ Grows (lastNumeral (2 ^ b) count value) from count (now (buffer .entry)) (now (buffer .exit)) ⌝ }
 {
     let mut at = from;
     while at < count {
-        at = step_pairs(table, value, b, count, at, buffer);
+        at = step_by_pair(table, value, b, count, at, buffer);
     }
 }
 
 // The same in radix 32. Where nothing is left its table is not named: a call that names it builds it first.
 fn radix_32(value: u64, count: usize, from: usize, buffer: &mut [u8])
     requires { ⌜ (from ≤ count) × ((count - from) % 2 ≡ 0) × (5 * (count - from - 1) < 64) × (count ≤ length (now buffer)) ⌝ }
-    ensures { λ _. ⌜ Onward (lastNumeral 32 count value) from count (now (buffer .entry)) (now (buffer .exit)) ⌝ }
+    ensures { λ _. ⌜ Grows (lastNumeral 32 count value) from count (now (buffer .entry)) (now (buffer .exit)) ⌝ }
 {
     if from < count {
         radix_pairs(&DIGIT_TO_BASE32_SQUARED, value, 5, count, from, buffer);
@@ -59,7 +59,7 @@ fn radix_32(value: u64, count: usize, from: usize, buffer: &mut [u8])
 // From so many digits on to the last. Two calls come here, so that the compiler keeps it apart: within the float writer it would take the registers of all else.
 pub(crate) fn radix_by_bits(value: u64, b: u32, count: usize, from: usize, buffer: &mut [u8])
     requires { ⌜ (0 < b) × (b ≤ 5) × (from ≤ count) × (b * (count - from - 1) < 64) × (count ≤ length (now buffer)) ⌝ }
-    ensures { λ _. ⌜ Onward (lastNumeral (2 ^ b) count value) from count (now (buffer .entry)) (now (buffer .exit)) ⌝ }
+    ensures { λ _. ⌜ Grows (lastNumeral (2 ^ b) count value) from count (now (buffer .entry)) (now (buffer .exit)) ⌝ }
 {
     let at = odd_digit(value, b, count, from, buffer);
     match b {

@@ -7,8 +7,8 @@ ghost use Rattle.lexical_util.specs.Answer.{ofWritten};
 ghost use Rattle.lexical_write_integer_spec.specs.Front.{begun, stepLength, stepsText, stepWritten, stepHeld, StepAdds};
 ghost use Rattle.lexical_write_integer_spec.specs.Write.{lastNumeral};
 use crate::count::digit_count;
-use crate::front::step;
-use crate::front::step_pairs;
+use crate::front::step_by_digits;
+use crate::front::step_by_pair;
 use crate::table::DIGIT_TO_BASE2_SQUARED;
 use crate::table::DIGIT_TO_BASE32_SQUARED;
 use crate::table::DIGIT_TO_CHAR;
@@ -17,18 +17,18 @@ use lexical_util::Written;
 use lexical_util::digit_bits;
 
 // One digit where an odd number is left, else two, by the very step of the radix's loop.
-fn next_digits(value: u64, b: u32, count: usize, at: usize, buffer: &mut [u8]) -> usize
+fn step_of_radix(value: u64, b: u32, count: usize, at: usize, buffer: &mut [u8]) -> usize
     requires { ⌜ (0 < b) × (b ≤ 5) × (at < count) × (b * (count - 1) < 64) × (count ≤ length (now buffer)) ⌝ }
     ensures { λ r. ⌜ r ≡ at + stepLength (count - at) ⌝ }
     ensures { λ _. ⌜ now (buffer .exit) ≡ take at (now (buffer .entry)) ++ begun (drop at (lastNumeral (2 ^ b) count value)) (stepLength (count - at)) (drop at (now (buffer .entry))) ⌝ }
 {
     if (count - at) % 2 == 1 {
-        return step(&DIGIT_TO_CHAR, value, b, count, at, 1, buffer);
+        return step_by_digits(&DIGIT_TO_CHAR, value, b, count, at, 1, buffer);
     }
     match b {
-        1 => step_pairs(&DIGIT_TO_BASE2_SQUARED, value, 1, count, at, buffer),
-        5 => step_pairs(&DIGIT_TO_BASE32_SQUARED, value, 5, count, at, buffer),
-        _ => step(&DIGIT_TO_CHAR, value, b, count, at, 2, buffer),
+        1 => step_by_pair(&DIGIT_TO_BASE2_SQUARED, value, 1, count, at, buffer),
+        5 => step_by_pair(&DIGIT_TO_BASE32_SQUARED, value, 5, count, at, buffer),
+        _ => step_by_digits(&DIGIT_TO_CHAR, value, b, count, at, 2, buffer),
     }
 }
 
@@ -66,5 +66,5 @@ pub fn write_step(value: u64, radix: u32, width: u32, at: usize, buffer: &mut [u
     if count <= at {
         return Written::Length(at);
     }
-    Written::Length(next_digits(value, digit_bits(radix), count, at, buffer))
+    Written::Length(step_of_radix(value, digit_bits(radix), count, at, buffer))
 }

@@ -6,7 +6,7 @@ use native.Mathlib.Omega.{arith}
 use lib.ListN.{length, take, drop}
 use lib.Seq.{take-at, drop-at, take-add, take-length, drop-drop, length-take-le}
 use Rattle.lexical_write_integer_spec.specs.Write.{lastNumeral}
-use Rattle.lexical_write_integer_spec.specs.Front.{begun, Onward}
+use Rattle.lexical_write_integer_spec.specs.Front.{begun, Grows}
 use Rattle.lexical_write_integer_spec.proofs.LastLaws.{length-last, last-add}
 
 -- of n digits those from the k-th on are the last of the number without the ones behind them
@@ -20,16 +20,16 @@ next-digits r n k m x h =
     ∙ take-at (lastNumeral r m (x / r ^ p)) (lastNumeral r p x) m (length-last r m (x / r ^ p))
 
 -- ---- the bytes so far
-pub onward-none : (t : List ℕ) (k : ℕ) (o : List ℕ) → Onward t k k o o
-onward-none t k o = record { stand = λ lent h. h }
+pub grows-none : (t : List ℕ) (k : ℕ) (o : List ℕ) → Grows t k k o o
+grows-none t k o = record { stand = λ lent h. h }
 
-pub onward-more : {t : List ℕ} {i j k : ℕ} {o o′ o″ : List ℕ} → Onward t i j o o′ → Onward t j k o′ o″ → Onward t i k o o″
-onward-more p q = record { stand = λ lent h. q .stand lent (p .stand lent h) }
+pub grows-more : {t : List ℕ} {i j k : ℕ} {o o′ o″ : List ℕ} → Grows t i j o o′ → Grows t j k o′ o″ → Grows t i k o o″
+grows-more p q = record { stand = λ lent h. q .stand lent (p .stand lent h) }
 
 -- a step's bytes, put behind those so far
-pub onward-step : (t o o′ : List ℕ) (k m : ℕ) → k ≤ length t → o′ ≡ take k o ++ (take m (drop k t) ++ drop m (drop k o)) → Onward t k (k + m) o o′
+pub grows-step : (t o o′ : List ℕ) (k m : ℕ) → k ≤ length t → o′ ≡ take k o ++ (take m (drop k t) ++ drop m (drop k o)) → Grows t k (k + m) o o′
 unfolding begun
-onward-step t o o′ k m h e = record { stand = grown }
+grows-step t o o′ k m h e = record { stand = grown }
   where
     n : length (take k t) ≡ k
     n = length-take-le k t h
@@ -46,8 +46,8 @@ unfolding begun
 begun-none t lent = refl
 
 -- from nothing on: so many bytes of the text, and the rest is as lent
-pub onward-all : (t o o′ : List ℕ) (n : ℕ) → Onward t 0 n o o′ → o′ ≡ begun t n o
-onward-all t o o′ n w = w .stand o (begun-none t o)
+pub grows-all : (t o o′ : List ℕ) (n : ℕ) → Grows t 0 n o o′ → o′ ≡ begun t n o
+grows-all t o o′ n w = w .stand o (begun-none t o)
 
 -- a whole text
 pub begun-whole : (t lent : List ℕ) (n : ℕ) → length t ≡ n → begun t n lent ≡ t ++ drop n lent

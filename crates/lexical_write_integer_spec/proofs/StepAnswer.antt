@@ -14,7 +14,7 @@ use Rattle.lexical_util.specs.Digit.{isRadix, isWidth}
 use Rattle.lexical_util.proofs.AnswerLaws.{refused-done, done-same}
 use Rattle.lexical_write_integer_spec.specs.Digits.{numeral}
 use Rattle.lexical_write_integer_spec.specs.Front.{begun, stepLength, stepsText, stepWritten, stepHeld, Adds, StepAdds}
-use Rattle.lexical_write_integer_spec.proofs.FrontLaws.{onward-step}
+use Rattle.lexical_write_integer_spec.proofs.FrontLaws.{grows-step}
 
 -- ---- how many bytes a step adds
 pub step-odd : (left : ℕ) → left % 2 ≡ 1 → stepLength left ≡ 1
@@ -50,7 +50,7 @@ step-adds t out o k n e w =
     record {
       one-or-two = λ h. more (step-some (length t - k) (omega arith));
       within = λ h. omega (arith, step-le (length t - k));
-      onward = λ h. rw e (onward-step t out o k (stepLength (length t - k)) h w);
+      grows = λ h. rw e (grows-step t out o k (stepLength (length t - k)) h w);
     }
   where
     more : (stepLength (length t - k) ≡ 1) ⊎ (stepLength (length t - k) ≡ 2) → (n ≡ k + 1) ⊎ (n ≡ k + 2)

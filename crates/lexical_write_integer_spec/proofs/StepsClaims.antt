@@ -31,7 +31,7 @@ reach t lent l (suc m) k o h f w =
     let n = k + stepLength (length t - k) in
     let room : length t ≤ length o = rw (w, length-begun t lent k h l) l in
     let A = step-adds t o (stepHeld (done t) k o) k n refl (rw (le-leb (length t) (length o) room)) in
-    reach t lent l m n (stepHeld (done t) k o) (A .within h) (omega (arith, step-less (length t - k))) (A .onward h .stand lent w)
+    reach t lent l m n (stepHeld (done t) k o) (A .within h) (omega (arith, step-less (length t - k))) (A .grows h .stand lent w)
 
 pub steps-make-the-call : StepsMakeTheCall
 unfolding stepsText

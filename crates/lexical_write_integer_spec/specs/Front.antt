@@ -15,7 +15,7 @@ unfoldable pub begun : List ℕ → ℕ → List ℕ → List ℕ
 begun text k lent = take k text ++ drop k lent
 
 -- from the text's first j bytes to its first k, whatever was lent
-pub record Onward (text : List ℕ) (j k : ℕ) (before after : List ℕ) : Type 0 where
+pub record Grows (text : List ℕ) (j k : ℕ) (before after : List ℕ) : Type 0 where
   pub stand : (lent : List ℕ) → before ≡ begun text j lent → after ≡ begun text k lent
 
 -- ---- a step by itself
@@ -40,7 +40,7 @@ stepHeld (refused n p) k out = out
 pub record Adds (text : List ℕ) (k : ℕ) (before : List ℕ) (n : ℕ) (after : List ℕ) : Type 0 where
   pub one-or-two : k < length text → (n ≡ k + 1) ⊎ (n ≡ k + 2)
   pub within : k ≤ length text → n ≤ length text
-  pub onward : k ≤ length text → Onward text k n before after
+  pub grows : k ≤ length text → Grows text k n before after
 
 -- so it is where a step is not refused
 abbrev pub StepAdds : Answer (List ℕ) → ℕ → List ℕ → Answer ℕ → List ℕ → Type 0

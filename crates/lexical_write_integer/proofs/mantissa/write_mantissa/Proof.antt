@@ -5,7 +5,7 @@ use native.Mathlib.Omega.{arith}
 use borrow.Author.Needs.{needs}
 use borrow.Author.Tests.{ltb-true, ltb-false}
 use denote.Ref.{now}
-use Rattle.lexical_write_integer_spec.proofs.FrontLaws.{onward-more, onward-all}
+use Rattle.lexical_write_integer_spec.proofs.FrontLaws.{grows-more, grows-all}
 use Rattle.lexical_write_integer_spec.proofs.MantissaAnswer.{unknown, short, fits}
 use Rattle.lexical_write_integer.proofs.mantissa.write_mantissa.Statement.{statement}
 use Rattle.lexical_write_integer.proofs.mantissa.write_mantissa.Tie as tie
@@ -34,7 +34,7 @@ returns-3 c =
     let z = c .before .before .before .before .before .before in
     let a = z .before .before .before .before .before .before .args in
     let f = fits (a .value) (a .bits-per-digit) (a .count) (now (a .buffer)) (omega arith) (omega (arith, ltb-false)) (omega arith) in
-    (f .0, onward-all _ _ _ _ (onward-more (z .zeros-in-front .ensures .1 (a .value) (omega arith)) (c .before .before .radix-by-bits .ensures)) ∙ f .1)
+    (f .0, grows-all _ _ _ _ (grows-more (z .zeros-in-front .ensures .1 (a .value) (omega arith)) (c .before .before .radix-by-bits .ensures)) ∙ f .1)
 
 pub write-mantissa-spec : {M : Type 1} → statement M
 write-mantissa-spec = tie.close (tie.spec returns returns-2 zeros-in-front-requires radix-by-bits-requires same-length returns-3)

@@ -6,15 +6,15 @@ use native.Mathlib.Omega.{arith}
 use borrow.Author.Needs.{needs}
 use lib.ListN.{length, length-set}
 use Rattle.lexical_write_integer_spec.specs.Write.{lastNumeral}
-use Rattle.lexical_write_integer_spec.specs.Front.{Onward}
-use Rattle.lexical_write_integer_spec.proofs.FrontLaws.{onward-none, onward-more}
+use Rattle.lexical_write_integer_spec.specs.Front.{Grows}
+use Rattle.lexical_write_integer_spec.proofs.FrontLaws.{grows-none, grows-more}
 use Rattle.lexical_write_integer.proofs.StepLaws.{most-digits, zero-stored}
 use Rattle.lexical_write_integer.proofs.mantissa.zeros_in_front.Statement.{statement}
 use Rattle.lexical_write_integer.proofs.mantissa.zeros_in_front.Tie as tie
 
 abbrev Inv-loop : tie.InvT-loop
 Inv-loop b count buffer₀ most at₀ buffer at =
-    ((value : ℕ) → value < 2 ^ 64 → Onward (lastNumeral (2 ^ b) count value) 0 at buffer₀ buffer)
+    ((value : ℕ) → value < 2 ^ 64 → Grows (lastNumeral (2 ^ b) count value) 0 at buffer₀ buffer)
     × (length buffer ≡ length buffer₀)
     × (at ≤ count)
     × (most ≡ 63 / b + 1)
@@ -29,7 +29,7 @@ add-most : tie.Need-add-most Inv-loop μ-loop
 add-most c = omega (arith, c .quotient .ensures, div-le-self 63 (c .before .before .args .b))
 
 loop-holds : tie.Need-loop-holds Inv-loop μ-loop
-loop-holds c = ((λ value h. onward-none _ _ _), refl, omega arith, rw (c .quotient .ensures))
+loop-holds c = ((λ value h. grows-none _ _ _), refl, omega arith, rw (c .quotient .ensures))
 
 sub-loop : tie.Need-sub-loop Inv-loop μ-loop
 sub-loop c = omega arith
@@ -47,7 +47,7 @@ loop-again : tie.Need-loop-again Inv-loop μ-loop
 loop-again c =
     let l = c .before .loop in
     let a = c .before .before .before .before .args in (
-      (λ value h. onward-more (l .inv .0 value h) (zero-stored (a .b) value (a .count) (l .at) (l .buffer) (omega arith) h (omega (arith, l .inv .3)) (omega (arith, l .inv .1)) .1)),
+      (λ value h. grows-more (l .inv .0 value h) (zero-stored (a .b) value (a .count) (l .at) (l .buffer) (omega arith) h (omega (arith, l .inv .3)) (omega (arith, l .inv .1)) .1)),
       simp length-set (l .inv .1),
       omega arith,
       l .inv .3,

@@ -4,7 +4,7 @@ use mathlib.Core.Path.{_≡_}
 use native.Mathlib.Omega.{arith}
 use borrow.Author.Needs.{needs}
 use Rattle.lexical_util.specs.Digit.{digitByte}
-use Rattle.lexical_write_integer_spec.proofs.FrontLaws.{onward-more}
+use Rattle.lexical_write_integer_spec.proofs.FrontLaws.{grows-more}
 use Rattle.lexical_write_integer.specs.Table.{pairByte}
 use Rattle.lexical_write_integer.proofs.PairLaws.{pairs-follow}
 use Rattle.lexical_write_integer.proofs.StepLaws.{shorter}
@@ -40,16 +40,16 @@ returns : tie.Need-returns
 returns c =
     let o = c .before .before .before .before .before .before .before .before in
     let one : o .before .before .before .args .b ≡ 1 = omega arith in
-    rw one (onward-more (rw one at (o .odd-digit .ensures .1)) (c .before .before .radix-pairs .ensures))
+    rw one (grows-more (rw one at (o .odd-digit .ensures .1)) (c .before .before .radix-pairs .ensures))
 
 returns-2 : tie.Need-returns-2
 returns-2 c =
     let o = c .before .before .before .before .before .before .before in
     let five : o .before .before .before .args .b ≡ 5 = omega arith in
-    rw five (onward-more (rw five at (o .odd-digit .ensures .1)) (c .before .before .radix-32 .ensures))
+    rw five (grows-more (rw five at (o .odd-digit .ensures .1)) (c .before .before .radix-32 .ensures))
 
 returns-3 : tie.Need-returns-3
-returns-3 c = onward-more (c .before .before .before .before .before .before .before .odd-digit .ensures .1) (c .before .before .radix .ensures)
+returns-3 c = grows-more (c .before .before .before .before .before .before .before .odd-digit .ensures .1) (c .before .before .radix .ensures)
 
 pub radix-by-bits-spec : {M : Type 1} → statement M
 radix-by-bits-spec =

@@ -15,18 +15,18 @@ abbrev μ-loop : tie.MeasureT-loop
 loop-holds : tie.Need-loop-holds Inv-loop μ-loop
 loop-holds c = filled-none _ _ _ _ (omega arith) (omega arith)
 
-step-pairs-requires : tie.Need-step-pairs-requires Inv-loop μ-loop
-step-pairs-requires c κs =
+step-by-pair-requires : tie.Need-step-by-pair-requires Inv-loop μ-loop
+step-by-pair-requires c κs =
     let f = c .before .before .loop .inv in
     let s = c .before .before .before .before .before in
     (s .pre .0, omega arith, omega arith, omega (arith, f .even), shorter (s .args .b) _ _ (omega (arith, f .behind)) (s .pre .5), omega (arith, f .same))
 
 loop-less : tie.Need-loop-less Inv-loop μ-loop
-loop-less c = omega (arith, c .before .before .step-pairs .ensures .0)
+loop-less c = omega (arith, c .before .before .step-by-pair .ensures .0)
 
 loop-again : tie.Need-loop-again Inv-loop μ-loop
 loop-again c =
-    let s = c .before .before .step-pairs in
+    let s = c .before .before .step-by-pair in
     filled-more _ _ _ _ _ _ _ _ (c .before .before .before .before .before .loop .inv) (omega arith) (s .ensures .0) (s .kept .1 .1 .1 .1 .1 .0) (s .ensures .1 .1)
 
 same-length : tie.Need-same-length Inv-loop μ-loop
@@ -36,4 +36,4 @@ returns : tie.Need-returns Inv-loop μ-loop
 returns c = filled-all _ _ _ _ _ _ (c .before .loop .inv) (omega arith)
 
 pub radix-pairs-spec : {M : Type 1} → statement M
-radix-pairs-spec = tie.close (tie.spec Inv-loop μ-loop loop-holds step-pairs-requires loop-less loop-again same-length returns)
+radix-pairs-spec = tie.close (tie.spec Inv-loop μ-loop loop-holds step-by-pair-requires loop-less loop-again same-length returns)

@@ -82,8 +82,8 @@ returns-5 c =
     let f = step-fits _ (text d) (now (a .buffer)) (a .at) (d .digit-count .result) (asked d) (counted d) (omega arith) (a .at) (now (a .buffer)) (none .0) (none .1) in
     (f .0, (f .1, f .2))
 
-next-digits-requires : tie.Need-next-digits-requires
-next-digits-requires c κs =
+step-of-radix-requires : tie.Need-step-of-radix-requires
+step-of-radix-requires c κs =
     let b = c .before .digit-bits .ensures in
     let d = c .before .before .before .before in
     let a = start d .args in (
@@ -96,7 +96,7 @@ next-digits-requires c κs =
 
 returns-6 : tie.Need-returns-6
 returns-6 c =
-    let n = c .before .before .next-digits .ensures in
+    let n = c .before .before .step-of-radix .ensures in
     let b = c .before .before .before .before .digit-bits .ensures in
     let d = c .before .before .before .before .before .before .before in
     let a = start d .args in
@@ -117,6 +117,6 @@ write-step-spec =
     returns-4
     returns-5
     (λ c κs. search needs)
-    next-digits-requires
+    step-of-radix-requires
     (λ c. search needs)
     returns-6)

@@ -4,7 +4,7 @@ use native.Mathlib.Nat.{sub-zero}
 use native.Mathlib.Omega.{arith}
 use borrow.Author.Needs.{needs}
 use Rattle.lexical_util.proofs.BitsLaws.{Power, power-of}
-use Rattle.lexical_write_integer_spec.proofs.FrontLaws.{onward-all, begun-whole}
+use Rattle.lexical_write_integer_spec.proofs.FrontLaws.{grows-all, begun-whole}
 use Rattle.lexical_write_integer_spec.proofs.LastLaws.{length-last}
 use Rattle.lexical_write_integer.proofs.write.write_digits.Statement.{statement}
 use Rattle.lexical_write_integer.proofs.write.write_digits.Tie as tie
@@ -37,7 +37,7 @@ same-length-2 : tie.Need-same-length-2
 same-length-2 c = search needs
 
 returns-2 : tie.Need-returns-2
-returns-2 c = onward-all _ _ _ _ (rw (power (c .before .before .before .before) .is) at (c .before .before .radix-by-bits .ensures))
+returns-2 c = grows-all _ _ _ _ (rw (power (c .before .before .before .before) .is) at (c .before .before .radix-by-bits .ensures))
 
 pub write-digits-spec : {M : Type 1} → statement M
 write-digits-spec =

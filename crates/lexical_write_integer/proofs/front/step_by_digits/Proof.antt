@@ -1,4 +1,4 @@
--- `lexical_write_integer::front::step` meets its contract: what it stores are the next digits, one or two. Assumes nothing.
+-- `lexical_write_integer::front::step_by_digits` meets its contract: what it stores are the next digits, one or two. Assumes nothing.
 use Prim.Native.Nat.{_-_}
 use mathlib.Core.Path.{_≡_}
 use native.Mathlib.Numerals.{add-one}
@@ -7,8 +7,8 @@ use borrow.Author.Needs.{needs}
 use lib.ListN.{length-set}
 use denote.Ref.{now}
 use Rattle.lexical_write_integer.proofs.StepLaws.{place-small, one-digit, two-digits, stored}
-use Rattle.lexical_write_integer.proofs.front.step.Statement.{statement}
-use Rattle.lexical_write_integer.proofs.front.step.Tie as tie
+use Rattle.lexical_write_integer.proofs.front.step_by_digits.Statement.{statement}
+use Rattle.lexical_write_integer.proofs.front.step_by_digits.Tie as tie
 
 cast-rest : tie.Need-cast-rest
 cast-rest c = let s = c .before in omega (arith, place-small (s .args .b) (s .args .count - s .args .at - s .args .digits) (s .pre .1) (s .pre .6))
@@ -30,8 +30,8 @@ returns-2 c =
     let s = stored (a .b) (a .value) (a .count) (a .at) 2 _ (now (a .buffer)) (omega arith) (omega arith) (two-digits _ _ _ _ (rw two at (c .last-char2 .ensures)) (rw two at (c .before .before .last-char .ensures))) in
     rw (two, add-one) (omega arith, (s .0, s .1))
 
-pub step-spec : {M : Type 1} → statement M
-step-spec =
+pub step-by-digits-spec : {M : Type 1} → statement M
+step-by-digits-spec =
     tie.close
     (tie.spec
     (λ c. search needs)

@@ -1,4 +1,4 @@
--- `lexical_write_integer::front::step_pairs` meets its contract: the pair of the table is the next two digits. Assumes nothing.
+-- `lexical_write_integer::front::step_by_pair` meets its contract: the pair of the table is the next two digits. Assumes nothing.
 use Prim.Native.Nat.{_+_, _-_, _*_, _^_, _<_}
 use mathlib.Core.Path.{refl}
 use native.Mathlib.Nat.{mod-lt}
@@ -10,8 +10,8 @@ use lib.Pow.{pow-pos, pow-mono}
 use denote.Ref.{now}
 use Rattle.lexical_write_integer.proofs.PairLaws.{pair-digits}
 use Rattle.lexical_write_integer.proofs.StepLaws.{place-small, stored}
-use Rattle.lexical_write_integer.proofs.front.step_pairs.Statement.{statement}
-use Rattle.lexical_write_integer.proofs.front.step_pairs.Tie as tie
+use Rattle.lexical_write_integer.proofs.front.step_by_pair.Statement.{statement}
+use Rattle.lexical_write_integer.proofs.front.step_by_pair.Tie as tie
 
 cast-last-pair : tie.Need-cast-last-pair
 cast-last-pair c = let s = c .before .before in omega (arith, place-small (s .args .b) (s .args .count - s .args .at - 2) (s .pre .1) (s .pre .4))
@@ -51,8 +51,8 @@ returns c =
     let f = stored (a .b) (a .value) (a .count) (a .at) 2 _ (now (a .buffer)) (omega arith) (omega arith) (pair-digits (a .b) (now (a .table)) (s .pre .0) _ (getD (now (a .table)) (2 * l .last-pair .result) 0) (getD (now (a .table)) (2 * l .last-pair .result + 1) 0) (rw p) (rw p)) in
     rw (add-one (a .at)) (refl, (f .0, f .1))
 
-pub step-pairs-spec : {M : Type 1} → statement M
-step-pairs-spec =
+pub step-by-pair-spec : {M : Type 1} → statement M
+step-by-pair-spec =
     tie.close
     (tie.spec
     (λ c. search needs)
