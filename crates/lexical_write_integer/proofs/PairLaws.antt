@@ -12,8 +12,8 @@ use Rattle.lexical_write_integer_spec.specs.Write.{lastNumeral}
 use Rattle.lexical_write_integer.specs.Table.{pairByte, PairTable, DigitTable}
 
 -- a table that is computed from the rule follows it; that the code's is that one, antt compares where it is lent
-pub chars-follow : DigitTable (tab digitByte 0 32)
-chars-follow = record { at = λ k h. tab-at digitByte 32 k h }
+pub digits-follow : DigitTable (tab digitByte 0 32)
+digits-follow = record { at = λ k h. tab-at digitByte 32 k h }
 
 length-tab : (f : ℕ → ℕ) (i n : ℕ) → length (tab f i n) ≡ n
 length-tab f i zero = refl

@@ -10,7 +10,7 @@ use lib.Ieee.{size}
 use lib.Ieee.Digits.{size-le}
 use lib.ListN.{length}
 use lib.Pow.{pow-pos}
-use Rattle.lexical_util.specs.Digit.{isRadix, isWidth, digitBits}
+use Rattle.lexical_util.specs.Digit.{greatestWidth, isRadix, isWidth, digitBits}
 use Rattle.lexical_util.proofs.BitsLaws.{power-of}
 use Rattle.lexical_util.proofs.WidthLaws.{width-bounds}
 use Rattle.lexical_exponent.proofs.PowerLaws.{size-zero, size-pos}
@@ -40,11 +40,11 @@ count-log b zero hb = rw (size-zero, zero-div, count-lt (2 ^ b) 0 (pow-pos b))
 count-log b (suc x) hb = omega (arith, count-bits b (suc x) hb (omega arith))
 
 -- the first digit's shift is one of a u64
-digits-room : (b x n w : ℕ) → 0 < b → b ≤ 5 → w ≤ 4 → x < 2 ^ 64 → n ≡ max w (length (digits (2 ^ b) x)) → b * (n - 1) < 64
+digits-room : (b x n w : ℕ) → 0 < b → b ≤ 5 → w ≤ greatestWidth → x < 2 ^ 64 → n ≡ max w (length (digits (2 ^ b) x)) → b * (n - 1) < 64
 digits-room b x n w some few wide h e = go (leb n w) refl
   where
     go : (t : Bool) → leb n w ≡ t → b * (n - 1) < 64
-    go true l = let k : n - 1 ≤ 3 = omega (arith, leb-true n w l) in omega (arith, mul-le-mul-left b k)
+    go true l = let k : n - 1 ≤ greatestWidth - 1 = omega (arith, leb-true n w l) in omega (arith, mul-le-mul-left b k)
     go false l =
         let k : n - 1 ≤ (size x - 1) / b = omega (arith, leb-false n w l, count-log b x some) in
         lt-of-le-of-lt (mul-le-mul-left b k) (omega (arith, mul-div-le (size x - 1) b, size-le x 64 h))

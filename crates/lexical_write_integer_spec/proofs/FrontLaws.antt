@@ -9,7 +9,7 @@ use Rattle.lexical_write_integer_spec.specs.Write.{lastNumeral}
 use Rattle.lexical_write_integer_spec.specs.Front.{begun, Grows}
 use Rattle.lexical_write_integer_spec.proofs.LastLaws.{length-last, last-add}
 
--- of n digits those from the k-th on are the last of the number without the ones behind them
+-- of n digits the m behind the first k are the last of the number without those behind them
 pub next-digits : (r n k m x : ℕ) → k + m ≤ n → take m (drop k (lastNumeral r n x)) ≡ lastNumeral r m (x / r ^ (n - k - m))
 next-digits r n k m x h =
     let p = n - k - m in

@@ -3,13 +3,13 @@ use native.Mathlib.Omega.{arith}
 use borrow.Author.Needs.{needs}
 use Rattle.lexical_util.specs.Digit.{digitByte}
 use Rattle.lexical_write_integer_spec.proofs.FrontLaws.{grows-none}
-use Rattle.lexical_write_integer.proofs.PairLaws.{chars-follow}
+use Rattle.lexical_write_integer.proofs.PairLaws.{digits-follow}
 use Rattle.lexical_write_integer.proofs.radix.odd_digit.Statement.{statement}
 use Rattle.lexical_write_integer.proofs.radix.odd_digit.Tie as tie
 
 step-by-digits-requires : tie.Need-step-by-digits-requires
 unfolding digitByte
-step-by-digits-requires c κs = (chars-follow, omega arith, omega arith, omega arith, omega arith, omega arith, c .before .before .before .before .pre .3, omega arith)
+step-by-digits-requires c κs = (digits-follow, omega arith, omega arith, omega arith, omega arith, omega arith, c .before .before .before .before .pre .3, omega arith)
 
 returns : tie.Need-returns
 returns c = let s = c .before .before .step-by-digits in ((omega (arith, s .ensures .0), omega (arith, s .ensures .0), omega (arith, s .ensures .0)), s .ensures .1 .1)

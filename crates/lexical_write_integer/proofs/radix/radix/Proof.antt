@@ -4,7 +4,7 @@ use native.Mathlib.Omega.{arith}
 use Rattle.lexical_util.specs.Digit.{digitByte}
 use Rattle.lexical_write_integer_spec.specs.Write.{lastNumeral}
 use Rattle.lexical_write_integer.specs.Table.{DigitTable}
-use Rattle.lexical_write_integer.proofs.PairLaws.{chars-follow}
+use Rattle.lexical_write_integer.proofs.PairLaws.{digits-follow}
 use Rattle.lexical_write_integer.proofs.StepLaws.{shorter, Filled, filled-none, filled-more, filled-all}
 use Rattle.lexical_write_integer.proofs.radix.radix.Statement.{statement}
 use Rattle.lexical_write_integer.proofs.radix.radix.Tie as tie
@@ -17,7 +17,7 @@ abbrev μ-loop : tie.MeasureT-loop
 
 loop-holds : tie.Need-loop-holds Inv-loop μ-loop
 unfolding digitByte
-loop-holds c = (filled-none _ _ _ _ (omega arith) (omega arith), chars-follow)
+loop-holds c = (filled-none _ _ _ _ (omega arith) (omega arith), digits-follow)
 
 step-by-digits-requires : tie.Need-step-by-digits-requires Inv-loop μ-loop
 step-by-digits-requires c κs =

@@ -6,7 +6,7 @@ use borrow.Author.Needs.{needs}
 use Rattle.lexical_util.specs.Digit.{digitByte}
 use Rattle.lexical_write_integer_spec.proofs.StepAnswer.{step-odd, step-even}
 use Rattle.lexical_write_integer.specs.Table.{pairByte}
-use Rattle.lexical_write_integer.proofs.PairLaws.{chars-follow, pairs-follow}
+use Rattle.lexical_write_integer.proofs.PairLaws.{digits-follow, pairs-follow}
 use Rattle.lexical_write_integer.proofs.StepLaws.{shorter}
 use Rattle.lexical_write_integer.proofs.trace.step_of_radix.Statement.{statement}
 use Rattle.lexical_write_integer.proofs.trace.step_of_radix.Tie as tie
@@ -15,7 +15,7 @@ step-by-digits-requires : tie.Need-step-by-digits-requires
 unfolding digitByte
 step-by-digits-requires c κs =
     let s = c .before .before .before .before in
-    (chars-follow, omega arith, omega arith, omega arith, omega arith, omega arith, shorter (s .args .b) _ _ (omega arith) (s .pre .3), omega arith)
+    (digits-follow, omega arith, omega arith, omega arith, omega arith, omega arith, shorter (s .args .b) _ _ (omega arith) (s .pre .3), omega arith)
 
 returns : tie.Need-returns
 returns c =
@@ -41,7 +41,7 @@ step-by-digits-requires-2 : tie.Need-step-by-digits-requires-2
 unfolding digitByte
 step-by-digits-requires-2 c κs =
     let s = c .before .before .before .before .before in
-    (chars-follow, omega arith, omega arith, omega arith, omega arith, omega arith, shorter (s .args .b) _ _ (omega arith) (s .pre .3), omega arith)
+    (digits-follow, omega arith, omega arith, omega arith, omega arith, omega arith, shorter (s .args .b) _ _ (omega arith) (s .pre .3), omega arith)
 
 returns-2 : tie.Need-returns-2
 returns-2 c =
