@@ -1,4 +1,6 @@
 // Runs examples through the compiled calls, and prints what each answered, one line each.
+#![tactic(auto)]
+
 mod digits;
 mod exponents;
 mod floats;

@@ -1,4 +1,6 @@
 // Formats and answers as C structs, and what they stand for.
+#![tactic(auto)]
+
 pub mod answer;
 pub mod format;
 

@@ -1,4 +1,6 @@
 // Texts put into a lent buffer, each from a place on.
+#![tactic(auto)]
+
 mod bytes;
 mod number;
 

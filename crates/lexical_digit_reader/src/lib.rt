@@ -1,4 +1,6 @@
 // The reader keeps the text and the place it has reached. Two functions on a plain text and a place do the work; those over the struct take it apart and call them, and `next_digit` serves whoever has a text and a place.
+#![tactic(auto)]
+
 ghost use Rattle.std.specs.Prelude.{◌≡◌};
 ghost use Rattle.lexical_util.specs.Digit.{of_digit_value};
 ghost use Rattle.lexical_digit_reader.specs.Place.{digit_at, place_after};

@@ -1,4 +1,6 @@
 // The three kinds of exponent, and the functions that scale one into another.
+#![tactic(auto)]
+
 pub mod exponent;
 
 pub use exponent::{

@@ -1,4 +1,6 @@
 // A float's parts, where a bit pattern has them, its sign in a text, and the order of floats by value.
+#![tactic(auto)]
+
 pub mod encoding;
 pub mod num;
 pub mod order;

@@ -1,4 +1,6 @@
 // A format of number text: radix and base of an exponent, flags, options, and its check.
+#![tactic(auto)]
+
 pub mod checks;
 pub mod format;
 pub mod options;

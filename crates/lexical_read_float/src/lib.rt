@@ -1,4 +1,6 @@
 // Reading a float's text.
+#![tactic(auto)]
+
 mod bits;
 mod digits;
 mod kept;

@@ -1,1 +1,3 @@
 // What reading a float is: definitions and laws, and no code.
+
+#![tactic(auto)]

@@ -1,4 +1,6 @@
 // Rewriting a text from one format into another, a chain of such rewritings, and the records of bytes in which a chain is given its formats.
+#![tactic(auto)]
+
 pub mod chain;
 pub mod record;
 pub mod rewrite;

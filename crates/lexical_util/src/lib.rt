@@ -1,4 +1,6 @@
 // What every call shares: its answer, radices, digit bytes and digit values.
+#![tactic(auto)]
+
 pub mod answer;
 pub mod digit;
 

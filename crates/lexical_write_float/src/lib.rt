@@ -1,4 +1,6 @@
 // Writing a float's text.
+#![tactic(auto)]
+
 mod binary;
 mod hex;
 mod pieces;

@@ -1,4 +1,6 @@
 // The digits of an integer in radix 2, 4, 8, 10, 16 or 32.
+#![tactic(auto)]
+
 mod count;
 mod decimal;
 mod front;

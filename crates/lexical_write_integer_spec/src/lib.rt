@@ -1,1 +1,3 @@
 // The digits of a number: definitions and their laws.
+
+#![tactic(auto)]

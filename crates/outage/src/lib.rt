@@ -1,4 +1,6 @@
 // What table, sheet and programs share: how large a table is, its header, a number in bytes, the check of a window, where a byte stands, and a number in radix 10.
+#![tactic(auto)]
+
 pub mod header;
 pub mod line;
 pub mod size;

@@ -1,4 +1,6 @@
 // What the programs write, and the formats that they are given as arguments.
+#![tactic(auto)]
+
 pub mod archive;
 pub mod argument;
 mod refusal;

@@ -1,4 +1,6 @@
 // Byte planes for the archive: a table packed, and unpacked again.
+#![tactic(auto)]
+
 pub mod archive;
 mod planes;
 

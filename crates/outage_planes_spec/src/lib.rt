@@ -1,1 +1,3 @@
 // What a packed table is: definitions and their laws.
+
+#![tactic(auto)]

@@ -1,4 +1,6 @@
 // From an outage sheet to its table.
+#![tactic(auto)]
+
 mod row;
 mod store;
 pub mod to_table;

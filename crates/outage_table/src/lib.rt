@@ -1,4 +1,6 @@
 // From an outage table to its sheet.
+#![tactic(auto)]
+
 mod format;
 mod print;
 mod table;

@@ -1,4 +1,6 @@
 // Reads a table from standard input and writes it packed, or the refusal.
+#![tactic(auto)]
+
 use libc::{STDIN_FILENO, STDOUT_FILENO};
 use outage::LONGEST_TABLE;
 

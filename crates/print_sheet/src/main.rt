@@ -1,4 +1,6 @@
 // Reads a table from standard input and prints its sheet, or the refusal.
+#![tactic(auto)]
+
 use libc::{STDIN_FILENO, STDOUT_FILENO};
 
 fn main() {

@@ -1,4 +1,6 @@
 // Reads a sheet in a format from standard input and writes its table, or the refusal.
+#![tactic(auto)]
+
 ghost use Rattle.std.specs.Prelude.{◌≤◌, length};
 
 use lexical_rewrite_spec::TextFormat;

@@ -1,4 +1,6 @@
 // Reads a sheet in one format from standard input and writes the same rows in another, or the refusal.
+#![tactic(auto)]
+
 ghost use Rattle.std.specs.Prelude.{◌≤◌, length};
 
 use lexical_rewrite_spec::TextFormat;

@@ -1,4 +1,6 @@
 // Reads a packed table from standard input and writes the table, or the refusal.
+#![tactic(auto)]
+
 use libc::{STDIN_FILENO, STDOUT_FILENO};
 use outage::LONGEST_TABLE;
 

@@ -1,4 +1,6 @@
 // Replays lists of cases through the compiled calls, and counts the lines whose answer they give again.
+#![tactic(auto)]
+
 ghost use Rattle.std.specs.Prelude.{◌≡◌, length};
 
 mod answer;

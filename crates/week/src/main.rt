@@ -1,4 +1,6 @@
 // The mission's week over edge floats, and chains that are long or refused: what each call answered, one line each.
+#![tactic(auto)]
+
 mod chains;
 mod floats;
 mod formats;
