@@ -12,7 +12,7 @@ use lexical_util::Written;
 
 // The value is the length written.
 #[repr(C)]
-#[derive(Drop)]
+#[derive(Clone, Copy)]
 pub struct Answer {
     pub number: u32,
     pub place: usize,
@@ -21,7 +21,7 @@ pub struct Answer {
 
 // The value is the float read.
 #[repr(C)]
-#[derive(Drop)]
+#[derive(Clone, Copy)]
 pub struct AnswerF64 {
     pub number: u32,
     pub place: usize,
@@ -29,7 +29,7 @@ pub struct AnswerF64 {
 }
 
 #[repr(C)]
-#[derive(Drop)]
+#[derive(Clone, Copy)]
 pub struct AnswerF32 {
     pub number: u32,
     pub place: usize,
@@ -38,7 +38,7 @@ pub struct AnswerF32 {
 
 // The value is the length of the last text. A refusal has the station's number, counted from 0, and whether its writing refused and not its reading. A rewriting is one station.
 #[repr(C)]
-#[derive(Drop)]
+#[derive(Clone, Copy)]
 pub struct StationAnswer {
     pub number: u32,
     pub writing: bool,

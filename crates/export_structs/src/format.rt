@@ -7,7 +7,7 @@ use lexical_rewrite_spec::TextFormat;
 
 // A number format and options in one struct. No enum crosses, so the round mode is a flag. In this order no load of the call spans two of the 16-byte stores by which its caller passes the struct.
 #[repr(C)]
-#[derive(Drop)]
+#[derive(Clone, Copy)]
 pub struct Format {
     pub required_exponent_notation: bool,
     pub no_exponent_notation: bool,

@@ -8,14 +8,14 @@ ghost use Rattle.lexical_digit_reader.specs.Place.{digit_at, place_after};
 use lexical_util::{DigitValue, digit_value};
 
 // A text, and the place reached in it. The place may lie past the text's end: no digit stands there.
-#[derive(Drop)]
+#[derive(Clone, Copy)]
 pub struct Reader<'a> {
     pub text: &'a [u8],
     pub at: usize,
 }
 
 // What stood at a place, and the place reached behind it.
-#[derive(Drop)]
+#[derive(Clone, Copy)]
 pub struct NextDigit {
     pub digit: DigitValue,
     pub at: usize,

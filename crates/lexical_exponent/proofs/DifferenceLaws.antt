@@ -76,7 +76,7 @@ module _ (w : Width) (a b : ℕ) (h : a < 2 ^ hbits w) (k : b < 2 ^ hbits w) whe
 
 -- ---- a number of 32 bits, as it is read back
 pub read_back : (z : ℤ) → mag z < 2 ^ hbits w32 → to_z w32 (of_z w32 z) ≡ z
-read_back z h = to_z-of_z (record { sfits = h })
+read_back z h = to_z-of_z {w = w32} (record { sfits = h })
 
 -- ---- a number of 32 bits, at 64
 pub widened : (z : ℤ) → mag z < 2 ^ hbits w32 → SFits w64 (to_z w32 (of_z w32 z)) × (to_z w64 (of_z w64 (to_z w32 (of_z w32 z))) ≡ z)

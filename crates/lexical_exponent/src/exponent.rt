@@ -5,19 +5,19 @@ ghost use Rattle.std.specs.Int.Signed.{lt_z};
 ghost use Rattle.lexical_exponent.specs.Exponent.{significant_bits, scale, LeadingBit, place, is_negative, power, modulo, zeros_behind_point, places_before_point, clamped, height_above, signed};
 
 // In bits: e, s, or any exponent of two.
-#[derive(Drop)]
+#[derive(Clone, Copy)]
 pub struct BitExponent(pub i32);
 
 // In digits: p, the place of a digit, or how many of them stand behind a point.
-#[derive(Drop)]
+#[derive(Clone, Copy)]
 pub struct DigitExponent(pub i32);
 
 // In powers of the base, as a text has it: whether it is negative, and its magnitude.
-#[derive(Drop)]
+#[derive(Clone, Copy)]
 pub struct BaseExponent(pub bool, pub u64);
 
 // A value mantissa * 2^exponent.
-#[derive(Drop)]
+#[derive(Clone, Copy)]
 pub struct Magnitude {
     pub mantissa: u64,
     pub exponent: BitExponent,

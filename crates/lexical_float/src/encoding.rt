@@ -8,14 +8,14 @@ ghost use Rattle.lexical_float.specs.Parts.{magnitude_of, parts_of};
 use crate::num::Parts;
 use lexical_exponent::{BitExponent, Magnitude};
 
-#[derive(Drop)]
+#[derive(Clone, Copy)]
 pub enum Width {
     Binary32,
     Binary64,
 }
 
 // Where the fields of a bit pattern stand, and how its exponent is counted. The exponent's mask is also the infinity's bits.
-#[derive(Drop)]
+#[derive(Clone, Copy)]
 pub struct Encoding {
     pub mantissa_size: u32,
     pub hidden_bit_mask: u64,

@@ -7,7 +7,7 @@ use crate::encoding::{Width, parts_of_bits};
 use lexical_exponent::Magnitude;
 
 // What a float is: its sign apart from its magnitude, or neither.
-#[derive(Drop)]
+#[derive(Clone, Copy)]
 pub enum Parts {
     // Finite: whether the sign bit is set, as -0 has it too, and the magnitude.
     Finite(bool, Magnitude),

@@ -10,14 +10,14 @@ use lexical_exponent::{BitExponent, is_below};
 use lexical_util::{DigitValue, Refusal};
 
 // What the reader's check answers: the pair's row, or the first refusal.
-#[derive(Drop)]
+#[derive(Clone, Copy)]
 pub enum ReadingCheck {
     Passed(Pair),
     Refused(Refusal),
 }
 
 // A format as the writer's later steps need it: b, c, and the breaks, none absent, in bits.
-#[derive(Drop)]
+#[derive(Clone, Copy)]
 pub struct CheckedFormat {
     pub b: u32,
     pub c: u32,
@@ -26,7 +26,7 @@ pub struct CheckedFormat {
 }
 
 // What the writer's check answers: what its later steps need, or the first refusal.
-#[derive(Drop)]
+#[derive(Clone, Copy)]
 pub enum WritingCheck {
     Passed(CheckedFormat),
     Refused(Refusal),

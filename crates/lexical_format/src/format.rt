@@ -3,7 +3,7 @@ ghost use Rattle.std.specs.Prelude.{◌≡◌, ◌&&◌, ◌≤◌, eqb};
 ghost use Rattle.lexical_format.specs.Format.{pairs, find_pair, of_found_pair};
 
 // A row of the table of pairs: a radix of b bits to a digit, and the base of the exponent, 2 to the power c.
-#[derive(Drop)]
+#[derive(Clone, Copy)]
 pub struct Pair {
     pub radix: u32,
     pub base: u32,
@@ -11,7 +11,7 @@ pub struct Pair {
     pub c: u32,
 }
 
-#[derive(Drop)]
+#[derive(Clone, Copy)]
 pub struct NumberFormat {
     pub mantissa_radix: u32,
     pub exponent_base: u32,
@@ -23,7 +23,7 @@ pub struct NumberFormat {
 }
 
 // The row of a radix and a base.
-#[derive(Drop)]
+#[derive(Clone, Copy)]
 pub(crate) enum FoundPair {
     Row(Pair),
     Unknown,

@@ -1,12 +1,12 @@
 // Derived from lexical-write-float/src/options.rs, changed: an exponent has a least width, an absent count or break is zero, and the strings for NaN and infinity are left out.
 
-#[derive(Drop)]
+#[derive(Clone, Copy)]
 pub enum RoundMode {
     Round,
     Truncate,
 }
 
-#[derive(Drop)]
+#[derive(Clone, Copy)]
 pub struct Options {
     // At most so many digits; 0 is no limit.
     pub max_significant_digits: u32,

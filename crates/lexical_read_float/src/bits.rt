@@ -25,7 +25,7 @@ pub const LONGEST_READ: usize = 4096;
 
 pub(crate) const GREATEST_EXPONENT: u64 = 32767;
 
-#[derive(Drop)]
+#[derive(Clone, Copy)]
 pub(crate) enum FloatBits {
     Bits(u64),
     Refused(Refusal),
@@ -59,7 +59,7 @@ fn rounded_bits(rounded: Rounded, negative: bool, width: Width) -> FloatBits
 }
 
 // The powers of two by which a number is multiplied and divided.
-#[derive(Drop)]
+#[derive(Clone, Copy)]
 struct Powers {
     up: u32,
     down: u32,

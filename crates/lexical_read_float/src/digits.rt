@@ -11,28 +11,28 @@ use crate::kept::Kept;
 use lexical_exponent::{BitExponent, DigitExponent, digits_in_bits, height_above};
 
 // Digits that went into the bits: where they end, and the bits.
-#[derive(Drop)]
+#[derive(Clone, Copy)]
 struct LeadingDigits {
     end: usize,
     bits: u64,
 }
 
 // Digits below full bits: where they end, and whether all are 0.
-#[derive(Drop)]
+#[derive(Clone, Copy)]
 struct FurtherDigits {
     end: usize,
     clear: bool,
 }
 
 // Digits of a mantissa: where they end, and what is kept of the number that they spell behind the digits before them.
-#[derive(Drop)]
+#[derive(Clone, Copy)]
 pub(crate) struct MantissaDigits {
     pub end: usize,
     pub kept: Kept,
 }
 
 // Digits of an exponent: where they end, and the number that they spell, or the first one that is too great for any above.
-#[derive(Drop)]
+#[derive(Clone, Copy)]
 pub(crate) struct ExponentDigits {
     pub end: usize,
     pub magnitude: u32,

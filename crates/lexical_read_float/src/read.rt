@@ -11,13 +11,13 @@ use lexical_format::{NumberFormat, Options, ReadingCheck};
 use lexical_util::Refusal;
 
 // What a call to read a float answers: the float, or a refusal with the place.
-#[derive(Drop)]
+#[derive(Clone, Copy)]
 pub enum ReadF64 {
     Float(f64),
     Refused(Refusal),
 }
 
-#[derive(Drop)]
+#[derive(Clone, Copy)]
 pub enum ReadF32 {
     Float(f32),
     Refused(Refusal),

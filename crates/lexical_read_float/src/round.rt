@@ -13,7 +13,7 @@ use lexical_exponent::{BitExponent, height_above, significant_bits};
 use lexical_float::{Width, encoding_of};
 
 // The bits of the nearest float, or that the number is too large for one.
-#[derive(Drop)]
+#[derive(Clone, Copy)]
 pub(crate) enum Rounded {
     Bits(u64),
     TooLarge,

@@ -11,20 +11,20 @@ use lexical_exponent::{BaseExponent, DigitExponent};
 use lexical_float::minus_length;
 
 // A text's exponent: its sign and its magnitude, or 32,768 for any above, in powers of the base, and the place of its first digit. Without one, 0 at the text's end.
-#[derive(Drop)]
+#[derive(Clone, Copy)]
 pub(crate) struct Exponent {
     pub power: BaseExponent,
     pub place: usize,
 }
 
-#[derive(Drop)]
+#[derive(Clone, Copy)]
 pub(crate) enum ScannedTail {
     Found(Exponent),
     Wrong(usize),
 }
 
 // What a text spells: whether "-" stands in front, its digits, how many of them stand behind the point, and its exponent.
-#[derive(Drop)]
+#[derive(Clone, Copy)]
 pub(crate) struct Number {
     pub negative: bool,
     pub kept: Kept,
@@ -32,7 +32,7 @@ pub(crate) struct Number {
     pub exponent: Exponent,
 }
 
-#[derive(Drop)]
+#[derive(Clone, Copy)]
 pub(crate) enum Scanned {
     Found(Number),
     Wrong(usize),
@@ -121,7 +121,7 @@ fn stands_at(text: &[u8], at: usize, byte: u8) -> bool
 }
 
 // A mantissa: where it ends, what is kept of its digits, and how many of them stand behind the point.
-#[derive(Drop)]
+#[derive(Clone, Copy)]
 struct Mantissa {
     end: usize,
     kept: Kept,

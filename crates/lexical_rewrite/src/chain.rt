@@ -19,7 +19,7 @@ use lexical_util::Refusal;
 use lexical_write_float::LONGEST_TEXT;
 
 // The length of the last text; or a refusal of a station's reading or writing, with the station's number, counted from 0.
-#[derive(Drop)]
+#[derive(Clone, Copy)]
 pub enum Chained {
     Length(usize),
     ReadingRefused(usize, Refusal),

@@ -13,7 +13,7 @@ use lexical_util::{Refusal, Written};
 use lexical_write_float::{write_f32, write_f64};
 
 // The length written, or the reading's refusal, or the writing's.
-#[derive(Drop)]
+#[derive(Clone, Copy)]
 pub enum Rewritten {
     Length(usize),
     ReadingRefused(Refusal),

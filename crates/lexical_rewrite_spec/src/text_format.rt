@@ -1,7 +1,7 @@
 // A format of a text: document 01, "a pair, an exponent radix, flags and options together".
 use lexical_format::{NumberFormat, Options};
 
-#[derive(Drop)]
+#[derive(Clone, Copy)]
 pub struct TextFormat {
     pub format: NumberFormat,
     pub options: Options,

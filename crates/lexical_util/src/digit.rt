@@ -2,7 +2,7 @@
 ghost use Rattle.std.specs.Prelude.{◌≡◌};
 ghost use Rattle.lexical_util.specs.Digit.{digit_value, is_radix, is_width, digit_bits, of_digit_value};
 
-#[derive(Drop)]
+#[derive(Clone, Copy)]
 pub enum DigitValue {
     Digit(u8),
     NoDigit,

@@ -13,14 +13,14 @@ use lexical_format::{NumberFormat, Options};
 use lexical_write_float_spec::Layout;
 
 // D by the number that it spells in radix 2^bits_per_digit, and how many digits it has.
-#[derive(Drop)]
+#[derive(Clone, Copy)]
 pub(crate) struct Digits {
     pub value: u64,
     pub bits_per_digit: u32,
     pub count: usize,
 }
 
-#[derive(Drop)]
+#[derive(Clone, Copy)]
 pub(crate) struct Plan {
     // How many digits of D stand in front.
     pub leading: usize,

@@ -45,7 +45,7 @@ fn digits_of(value: Magnitude, bits_per_digit: u32) -> Digits
 }
 
 // p, and D.
-#[derive(Drop)]
+#[derive(Clone, Copy)]
 struct Placed {
     p: DigitExponent,
     digits: Digits,

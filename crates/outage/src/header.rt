@@ -16,7 +16,7 @@ const HEADER: u64 = HEADER_SIZE as u64;
 const ROW: u64 = ROW_SIZE as u64;
 
 // The count of a table's windows, or a refusal.
-#[derive(Drop)]
+#[derive(Clone, Copy)]
 pub enum Count {
     Windows(usize),
     Refused(Refusal),

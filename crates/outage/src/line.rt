@@ -7,7 +7,7 @@ ghost use Rattle.outage.specs.Code.{number_on};
 use lexical_digit_reader::next_digit;
 use lexical_util::DigitValue;
 
-#[derive(Drop)]
+#[derive(Clone, Copy)]
 pub enum Number {
     Is(u32),
     Wrong,

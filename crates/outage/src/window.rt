@@ -8,7 +8,7 @@ use lexical_util::Refusal;
 use outage_spec::Window;
 
 // A window that passed, or a refusal.
-#[derive(Drop)]
+#[derive(Clone, Copy)]
 pub enum CheckedWindow {
     Passed(Window),
     Refused(Refusal),

@@ -9,7 +9,7 @@ use lexical_rewrite_spec::TextFormat;
 use outage::{Number, find, read_number};
 
 // A format that is admitted, or none.
-#[derive(Drop)]
+#[derive(Clone, Copy)]
 pub enum Argument {
     Format(TextFormat),
     Unknown,

@@ -14,7 +14,7 @@ use lexical_util::{Refusal, Written};
 use outage::{Count, FLOAT_SIZE, HEADER_SIZE, MOST_WINDOWS, header_count};
 
 // Which way a table goes.
-#[derive(Drop)]
+#[derive(Clone, Copy)]
 enum Way {
     ToPlanes,
     ToFloats,

@@ -1,5 +1,5 @@
 // A window, by value between table, sheet and checks: document 01, "Outage table and sheet".
-#[derive(Drop)]
+#[derive(Clone, Copy)]
 pub struct Window {
     pub start: f64,
     pub end: f64,

@@ -18,14 +18,14 @@ const HEADER: u64 = HEADER_SIZE as u64;
 const ROW: u64 = ROW_SIZE as u64;
 
 // The count of a table's rows, or 13.
-#[derive(Drop)]
+#[derive(Clone, Copy)]
 pub(crate) enum Count {
     Rows(usize),
     Wrong,
 }
 
 // All of a table's rows, once checked, or the first refusal of one.
-#[derive(Drop)]
+#[derive(Clone, Copy)]
 pub(crate) enum Rows {
     Passed,
     Refused(Refusal),

@@ -4,7 +4,7 @@ use crate::{fields, numbers};
 use lexical_util::{Refusal, Written};
 
 // A number is the length of a text, or the bits of a float. A NaN, which no line has, is told apart: its bits are not defined.
-#[derive(Drop)]
+#[derive(Clone, Copy)]
 pub(crate) enum Answer {
     Number(u64),
     NotANumber,

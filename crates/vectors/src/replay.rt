@@ -8,7 +8,7 @@ use crate::{digits, fields, print, reading, tables, tally, writing};
 // So many lines that do not agree are printed for each list.
 const SHOWN: usize = 5;
 
-#[derive(Drop)]
+#[derive(Clone, Copy)]
 enum Kind {
     Digits,
     Reading,

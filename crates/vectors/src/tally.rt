@@ -3,7 +3,7 @@ ghost use Rattle.std.specs.Prelude.{◌+◌, ◌-◌, ◌^◌, ◌≤◌, ◌<�
 ghost use Rattle.vectors.specs.Counts.{Counts};
 
 // One that differs, with how many bytes lent to be written.
-#[derive(Drop)]
+#[derive(Clone, Copy)]
 pub(crate) enum Verdict {
     Comment,
     Agrees,
@@ -11,7 +11,7 @@ pub(crate) enum Verdict {
     Malformed,
 }
 
-#[derive(Drop)]
+#[derive(Clone, Copy)]
 pub(crate) struct Tally {
     pub lines: usize,
     pub agree: usize,

@@ -25,7 +25,7 @@ const HIGH: usize = 16;
 
 const ROOM: usize = 4096;
 
-#[derive(Drop)]
+#[derive(Clone, Copy)]
 enum Float {
     F64(f64),
     F32(f32),
