@@ -17,7 +17,7 @@ use Rattle.lexical_util.specs.Digit.{digits_value}
 use Rattle.lexical_exponent.specs.Exponent.{scale, place, power, modulo}
 use Rattle.lexical_util.proofs.RadixLaws.{radix_bounds}
 use Rattle.lexical_write_integer_spec.specs.Digits.{digits, widened}
-use Rattle.lexical_write_integer_spec.proofs.DigitsLaws.{pow_mul, radix_above, digits_value, count_pos}
+use Rattle.lexical_write_integer_spec.proofs.DigitsLaws.{pow_mul, radix_above, digits_value_lem, count_pos}
 use Rattle.lexical_write_integer_spec.proofs.NumeralLaws.{widened_value, length_one}
 use Rattle.lexical_format.specs.declared.format.Pair.{Pair}
 use Rattle.lexical_format.specs.declared.format.NumberFormat.{NumberFormat}
@@ -200,6 +200,6 @@ module _ (F : NumberFormat) (o : Options) (row : Pair) (R : Readable F o row) wh
       let n = m * 2 ^ modulo e b in
       let r = radix_above b R.pair.some_bits in
       laid_value m e (digits (2 ^ b) n) (shape_in F o row (digits (2 ^ b) n) (place b (scale m e)) (digits_so_far F o m (exact_digits b m e)) (layout_of F o (scale m e)))
-      (digits_value (2 ^ b) r n)
+      (digits_value_lem (2 ^ b) r n)
       (λ M. first_place b m e R.pair.some_bits M ∙ ap (λ (k : ℕ). shr_z e b +ℤ pos (k - 1)) (length_one (2 ^ b) n))
       (laid_in (digits (2 ^ b) n) (count_pos (2 ^ b) n) (digits_so_far F o m (exact_digits b m e)) (scale m e))

@@ -80,8 +80,8 @@ read_one : (r x : ℕ) → read_on r 0 (x ∷ []) ≡ x
 unfolding read_on
 read_one r x = simp (zero-mul, zero-add)
 
-pub digits_value : (r : ℕ) → 1 < r → (x : ℕ) → digits_value r (digits r x) ≡ x
-digits_value r hr = by_quotient r hr (λ x. digits_value r (digits r x) ≡ x) small step
+pub digits_value_lem : (r : ℕ) → 1 < r → (x : ℕ) → digits_value r (digits r x) ≡ x
+digits_value_lem r hr = by_quotient r hr (λ x. digits_value r (digits r x) ≡ x) small step
   where
     small : (x : ℕ) → x < r → digits_value r (digits r x) ≡ x
     small x h = rw (digits_lt r x h) (read_one r x)

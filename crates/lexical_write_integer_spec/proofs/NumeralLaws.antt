@@ -11,7 +11,7 @@ use lib.ListN.{length, get_or, replicate, length-append, length-map, length-repl
 use lib.Seq.{get_or_at}
 use Rattle.lexical_util.specs.Digit.{digit_byte, AreDigits, read_on, digits_value}
 use Rattle.lexical_write_integer_spec.specs.Digits.{digits, widened, numeral}
-use Rattle.lexical_write_integer_spec.proofs.DigitsLaws.{count_pos, count_ge, digits_lt, digits_ge, digits_value, digits_below}
+use Rattle.lexical_write_integer_spec.proofs.DigitsLaws.{count_pos, count_ge, digits_lt, digits_ge, digits_value_lem, digits_below}
 
 -- ---- how many
 pub length_widened : (w : ℕ) (ds : List ℕ) → length (widened w ds) ≡ max w (length ds)
@@ -32,7 +32,7 @@ zeros_read r (suc n) ds =
 
 pub widened_value : (r w x : ℕ) → 1 < r → digits_value r (widened w (digits r x)) ≡ x
 unfolding widened
-widened_value r w x hr = zeros_read r (w - length (digits r x)) (digits r x) ∙ digits_value r hr x
+widened_value r w x hr = zeros_read r (w - length (digits r x)) (digits r x) ∙ digits_value_lem r hr x
 
 zeros_below : (r n : ℕ) (ds : List ℕ) → 0 < r → AreDigits r ds → AreDigits r (replicate {A = ℕ} n 0 ++ ds)
 zeros_below r zero ds h k = k

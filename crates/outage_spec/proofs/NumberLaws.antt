@@ -11,7 +11,7 @@ use lib.ListN.{length, get_or, length-map}
 use Rattle.lexical_util.specs.Digit.{digit_byte, digit_in, AreDigits, read_on, digits_value}
 use Rattle.lexical_util.proofs.DigitLaws.{in_digit, byte_figure}
 use Rattle.lexical_write_integer_spec.specs.Digits.{digits, numeral}
-use Rattle.lexical_write_integer_spec.proofs.DigitsLaws.{digits_value, digits_below, count_lt, count_ge, count_pos}
+use Rattle.lexical_write_integer_spec.proofs.DigitsLaws.{digits_value_lem, digits_below, count_lt, count_ge, count_pos}
 use Rattle.lexical_write_integer_spec.proofs.NumeralLaws.{numeral_one}
 use Rattle.lexical_read_float_spec.specs.Parse.{run, more}
 use Rattle.lexical_read_float_spec.proofs.RunLaws.{run_stops, run_all, is_run}
@@ -31,7 +31,7 @@ number_numeral limit x h =
     rw (
       numeral_one 10 x,
       run_all 10 (digits 10 x) (omega arith) (digits_below 10 (omega arith) x),
-      digits_value 10 (omega arith) x,
+      digits_value_lem 10 (omega arith) x,
       length-map (digits 10 x) digit_byte,
       eq-eqb (length (digits 10 x)) (length (digits 10 x)) refl,
       le-leb x limit h,

@@ -25,7 +25,7 @@ pub overflow_sub-bits : goal.overflow_sub-bits
 overflow_sub-bits c = power_below_fits c.args.bits_per_base c.at_most_past-powers.result (omega arith) (few (goal.at.overflow_sub-bits c).After-at_most_past-powers)
 
 pub returns-then-exponent : goal.returns-then-exponent
-returns-then-exponent c =     c.clamped.ensures ∙ ap clamped (power_below c.args.bits_per_base c.at_most_past-powers.result (omega arith) (few (goal.at.returns-then-exponent c).After-at_most_past-powers)) ∙ same (goal.at.returns-then-exponent c).After-at_most_past-powers _ c.if-exponent.true
+returns-then-exponent c = c.clamped.ensures ∙ ap clamped (power_below c.args.bits_per_base c.at_most_past-powers.result (omega arith) (few (goal.at.returns-then-exponent c).After-at_most_past-powers)) ∙ same (goal.at.returns-then-exponent c).After-at_most_past-powers _ c.if-exponent.true
 
 pub returns : goal.returns
-returns c =     c.clamped-2.ensures ∙ ap clamped (power_above c.args.bits_per_base c.at_most_past-powers.result (omega arith) (few (goal.at.returns c).After-at_most_past-powers)) ∙ same (goal.at.returns c).After-at_most_past-powers _ c.if-exponent.false
+returns c = c.clamped-2.ensures ∙ ap clamped (power_above c.args.bits_per_base c.at_most_past-powers.result (omega arith) (few (goal.at.returns c).After-at_most_past-powers)) ∙ same (goal.at.returns c).After-at_most_past-powers _ c.if-exponent.false

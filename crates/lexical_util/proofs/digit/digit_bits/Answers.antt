@@ -27,7 +27,7 @@ unfolding digit_bits
 returns-in-32 c = let e : c.args.radix ≡ 32 = omega arith in rw e
 
 pub returns-in_default : goal.returns-in_default
-returns-in_default c =     let n = c.args.radix in
+returns-in_default c = let n = c.args.radix in
     digit_bits_other n
     (record {
       not_2 = ne_eqb 2 n (λ e. omega arith);
