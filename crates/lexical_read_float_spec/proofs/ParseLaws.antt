@@ -53,17 +53,17 @@ pub formed_signed : (G : Grammar) (n : Bool) (s : Shape) → WellFormed G s → 
 formed_signed G n s w = record { some_whole = w.some_whole; whole_digits = w.whole_digits; fraction_fits = w.fraction_fits; fraction_digits = w.fraction_digits; tail_fits = w.tail_fits }
 
 module _ (G : Grammar) (A : Apart G) where
-  all_digits : (s : Sign) (ds : List ℕ) → Some ds → AreDigits G.exponent_radix ds → exponent_digits G.exponent_radix s (map digit_byte ds) ≡ found (exponent s ds)
-  all_digits s [] n all = absurd n
-  all_digits s (d ∷ ds) n all = ap (λ (r : Run). all_digits s r.got r.left) (run_all G.exponent_radix (d ∷ ds) A.power_small all)
+  all_digits_lem : (s : Sign) (ds : List ℕ) → Some ds → AreDigits G.exponent_radix ds → exponent_digits G.exponent_radix s (map digit_byte ds) ≡ found (exponent s ds)
+  all_digits_lem s [] n all = absurd n
+  all_digits_lem s (d ∷ ds) n all = ap (λ (r : Run). all_digits s r.got r.left) (run_all G.exponent_radix (d ∷ ds) A.power_small all)
 
   signed_back : (s : Sign) (ds : List ℕ) → Some ds → AreDigits G.exponent_radix ds → signed_exponent G.exponent_radix (sign_bytes s ++ map digit_byte ds) ≡ found (exponent s ds)
   signed_back unsigned [] n all = absurd n
   signed_back unsigned (d ∷ ds) n all =
       let k = byte_no_sign d (lt_of_lt_of_le all.0 A.power_small) in
-      no_sign G.exponent_radix (digit_byte d) (map digit_byte ds) k.0 k.1 ∙ all_digits unsigned (d ∷ ds) tt all
-  signed_back plus ds n all = unfold signed_exponent in all_digits plus ds n all
-  signed_back minus ds n all = unfold signed_exponent in all_digits minus ds n all
+      no_sign G.exponent_radix (digit_byte d) (map digit_byte ds) k.0 k.1 ∙ all_digits_lem unsigned (d ∷ ds) tt all
+  signed_back plus ds n all = unfold signed_exponent in all_digits_lem plus ds n all
+  signed_back minus ds n all = unfold signed_exponent in all_digits_lem minus ds n all
 
   pub tail_back : (τ : Tail) → TailFits G.exponent_radix τ → parse_tail G (tail_bytes G τ) ≡ found τ
   unfolding parse_tail

@@ -78,8 +78,8 @@ module _ {A : Type 0} (radix : ℕ) (small : radix ≤ 32) (Q : List ℕ → Lis
   abbrev pub after_run : List ℕ → Parsed A
   after_run u = Q (run radix u).got (run radix u).left
 
-  after_run : (t left : List ℕ) (r : Run) → IsRun radix t r → ((g u : List ℕ) → IsFound (Q g u) → Ends radix u) → Stuck (Q r.got) r.left left → Stuck after_run t left
-  after_run t left r is ends w =
+  after_run_lem : (t left : List ℕ) (r : Run) → IsRun radix t r → ((g u : List ℕ) → IsFound (Q g u) → Ends radix u) → Stuck (Q r.got) r.left left → Stuck after_run t left
+  after_run_lem t left r is ends w =
       let front = map digit_byte r.got in
       let read : (u : List ℕ) → Ends radix u → after_run (front ++ u) ≡ Q r.got u = λ u e. ap (λ (k : Run). Q k.got k.left) (run_digits radix r.got u small is.digits e) in
       record {
@@ -133,7 +133,7 @@ module _ (G : Grammar) (A : Apart G) where
         start = [];
         splits = p;
         rest = 48 ∷ [];
-        continues = subst IsFound (sym (by_run (48 ∷ []) (0 ∷ []) [] (zero_digit G.exponent_radix A.Power-pos A.Power-small))) tt;
+        continues = subst IsFound (sym (by_run (48 ∷ []) (0 ∷ []) [] (zero_digit G.exponent_radix A.power_pos A.power_small))) tt;
         stays = λ x xs ys q. by_run (x ∷ ys) [] (x ∷ ys) (run_stops G.exponent_radix x ys (subst (Ends G.exponent_radix) q e));
       }
       go (g ∷ gs) [] d e p = (refl, (tt, d), sym (append-nil (map digit_byte (g ∷ gs))) ∙ p)
@@ -141,8 +141,8 @@ module _ (G : Grammar) (A : Apart G) where
         start = map digit_byte (g ∷ gs);
         splits = p;
         rest = [];
-        continues = subst IsFound (sym (by_run _ (g ∷ gs) [] (run_digits G.exponent_radix (g ∷ gs) [] A.Power-small d tt))) tt;
-        stays = λ x xs ys q. by_run _ (g ∷ gs) (x ∷ ys) (run_digits G.exponent_radix (g ∷ gs) (x ∷ ys) A.Power-small d (subst (Ends G.exponent_radix) q e));
+        continues = subst IsFound (sym (by_run _ (g ∷ gs) [] (run_digits G.exponent_radix (g ∷ gs) [] A.power_small d tt))) tt;
+        stays = λ x xs ys q. by_run _ (g ∷ gs) (x ∷ ys) (run_digits G.exponent_radix (g ∷ gs) (x ∷ ys) A.power_small d (subst (Ends G.exponent_radix) q e));
       }
 
   -- with the sign
@@ -164,7 +164,7 @@ module _ (G : Grammar) (A : Apart G) where
   no_sign_in_front : (t : List ℕ) (p : Parsed Tail) → Head NoSign t → OfDigits unsigned t p → OfSigned t p
   no_sign_in_front t (found absent) n h = h
   no_sign_in_front t (found (exponent z ds)) n h = (h.1, ap (λ (y : Sign). sign_bytes y ++ map digit_byte ds) h.0 ∙ h.2)
-  no_sign_in_front t (stuck left) n h = agreeing NoSign (exponent_digits G.exponent_radix unsigned) (signed_exponent G.exponent_radix) t left unsigned_same (digit_no_sign G.exponent_radix A.Power-small (all_digits unsigned) (λ l k. k)) n h
+  no_sign_in_front t (stuck left) n h = agreeing NoSign (exponent_digits G.exponent_radix unsigned) (signed_exponent G.exponent_radix) t left unsigned_same (digit_no_sign G.exponent_radix A.power_small (all_digits unsigned) (λ l k. k)) n h
 
   of_signed : (t : List ℕ) → OfSigned t (signed_exponent G.exponent_radix t)
   unfolding signed_exponent
@@ -172,7 +172,7 @@ module _ (G : Grammar) (A : Apart G) where
     start = [];
     splits = refl;
     rest = 48 ∷ [];
-    continues = subst (λ (r : Run). IsFound (all_digits unsigned r.got r.left)) (sym (zero_digit G.exponent_radix A.Power-pos A.Power-small)) tt;
+    continues = subst (λ (r : Run). IsFound (all_digits unsigned r.got r.left)) (sym (zero_digit G.exponent_radix A.power_pos A.power_small)) tt;
     stays = λ x xs ys e. absurd (let z : ◌≡◌ {A = ℕ} 0 1 = cc in omega arith);
   }
   of_signed (x ∷ xs) = go (eqb x 43) refl (eqb x 45) refl
@@ -247,7 +247,7 @@ module _ (G : Grammar) (A : Apart G) where
   behind_point whole xs (stuck left) h =
       let Q : List ℕ → List ℕ → Parsed Shape = λ g u. map_parsed (with_tail whole true g) (parse_tail G u) in
       in_front (after_run G.radix A.radix_small Q) (after_whole G whole) G.point xs left (λ u. unfold after_whole in rw (eq-eqb G.point G.point refl))
-      (after_run G.radix A.radix_small Q xs left (run G.radix xs) (is_run G.radix xs)
+      (after_run_lem G.radix A.radix_small Q xs left (run G.radix xs) (is_run G.radix xs)
       (λ g u k. tail_head (λ y. digit_in G.radix y ≡ none) A.mark_off u (found_tail (with_tail whole true g) (parse_tail G u) k))
       (mapped (with_tail whole true (run G.radix xs).got) (parse_tail G) (run G.radix xs).left left h))
 
@@ -301,7 +301,7 @@ module _ (G : Grammar) (A : Apart G) where
         ap (λ (w : List ℕ). map digit_byte w ++ (fraction_bytes G s.dot s.fraction ++ tail_bytes G s.tail)) h.whole_is ∙ ap (λ (l : List ℕ). map digit_byte (d ∷ ds) ++ l) h.bytes ∙ q,
       )
       found_is d ds left (stuck after) all e q h =
-          after_run G.radix A.radix_small (one_or_more G) t after (record { got = d ∷ ds; left = left }) (record { digits = all; ends = e; splits = q })
+          after_run_lem G.radix A.radix_small (one_or_more G) t after (record { got = d ∷ ds; left = left }) (record { digits = all; ends = e; splits = q })
           (whole_head (λ y. digit_in G.radix y ≡ none) A.mark_off A.point_off) h
 
       go : (got left : List ℕ) → AreDigits G.radix got → Ends G.radix left → map digit_byte got ++ left ≡ t → OfUnsigned t (one_or_more G got left)

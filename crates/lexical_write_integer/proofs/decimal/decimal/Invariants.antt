@@ -1,0 +1,18 @@
+-- `lexical_write_integer::decimal::decimal` meets its contract: the digits left and the bytes stored are the whole. Assumes nothing.
+use Prim.Native.Nat.{◌≤◌}
+use mathlib.Core.Path.{◌≡◌, refl}
+use mathlib.Core.List.{◌++◌}
+use native.Mathlib.Omega.{arith}
+use lib.ListN.{length, drop, length-set}
+use Rattle.lexical_write_integer_spec.specs.Write.{last_numeral}
+use Rattle.lexical_write_integer.proofs.FillLaws.{back_step, back_end}
+use Rattle.lexical_write_integer.proofs.decimal.decimal.Given as goal
+
+abbrev pub invariant-loop-i : goal.invariant-loop-i
+invariant-loop-i l =
+    (last_numeral 10 l.count l.value ++ drop l.count l.initial.buffer ≡ last_numeral 10 l.i l.v ++ drop l.i l.buffer)
+    × (length l.buffer ≡ length l.initial.buffer)
+    × (l.i ≤ l.count)
+
+abbrev pub decreases-loop-i : goal.decreases-loop-i
+decreases-loop-i l = l.i
