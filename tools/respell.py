@@ -58,6 +58,9 @@ def main(root):
         if n not in definitions and "-" in n and new in taken:
             new += "_lem"
         words[n] = new
+    # names that share a line, and parameters of several words
+    for n in ("readingRefusedAt", "writingRefusedAt", "readingRefused", "writingRefused", "grammarIn", "badCount", "mantissaRadix"):
+        words[n] = snake(n)
     back = {}
     for n, new in words.items():
         back.setdefault(new, []).append(n)

@@ -7,7 +7,7 @@ use Rattle.lexical_format.specs.declared.options.Options.{Options}
 use Rattle.lexical_format.specs.declared.options.RoundMode.{RoundMode}
 use Rattle.lexical_format.specs.declared.options.RoundMode.TheVariants.{Round, Truncate}
 use Rattle.lexical_rewrite_spec.specs.declared.text_format.TextFormat.{TextFormat}
-use Rattle.lexical_rewrite_spec.specs.Chain.{Chained, arrived, readingRefusedAt, writingRefusedAt}
+use Rattle.lexical_rewrite_spec.specs.Chain.{Chained, arrived, reading_refused_at, writing_refused_at}
 use Rattle.export_structs.specs.declared.answer.Answer.{Answer}
 use Rattle.export_structs.specs.declared.answer.AnswerF64.{AnswerF64}
 use Rattle.export_structs.specs.declared.answer.AnswerF32.{AnswerF32}
@@ -70,5 +70,5 @@ answer_f32_of (called.refused n p) = record { number = n; place = p; value = zer
 -- the last text's length and all else 0, or a refusal's number and place, its station, and whether the writing refused
 abbrev pub station_answer_of : Chained → StationAnswer
 station_answer_of (arrived n) = record { number = 0; writing = false; station = 0; place = 0; value = n }
-station_answer_of (readingRefusedAt i n p) = record { number = n; writing = false; station = i; place = p; value = 0 }
-station_answer_of (writingRefusedAt i n p) = record { number = n; writing = true; station = i; place = p; value = 0 }
+station_answer_of (reading_refused_at i n p) = record { number = n; writing = false; station = i; place = p; value = 0 }
+station_answer_of (writing_refused_at i n p) = record { number = n; writing = true; station = i; place = p; value = 0 }

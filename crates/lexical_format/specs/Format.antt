@@ -89,7 +89,7 @@ exponent_checks o = (6, bad_breaks o) ∷ (16, not (is_width o.exponent_width)) 
 
 -- and before these 4 exponent both required and forbidden; 5 counts, as they are judged
 abbrev pub writing_checks : Bool → NumberFormat → Options → List Check
-writing_checks badCount F o = (4, F.required_exponent_notation && F.no_exponent_notation) ∷ (5, badCount) ∷ exponent_checks o
+writing_checks bad_count F o = (4, F.required_exponent_notation && F.no_exponent_notation) ∷ (5, bad_count) ∷ exponent_checks o
 
 -- 1 pair unknown, then the others
 abbrev pub checked_pair : List Check → Option Pair → Answer Pair
@@ -102,7 +102,7 @@ reading_format F o = checked_pair (reading_checks F o) (pair_of F)
 
 -- 1 to 6 and 16, with 5 judged so
 abbrev pub judged_format : Bool → NumberFormat → Options → Answer Pair
-judged_format badCount F o = checked_pair (reading_checks F o ++ writing_checks badCount F o) (pair_of F)
+judged_format bad_count F o = checked_pair (reading_checks F o ++ writing_checks bad_count F o) (pair_of F)
 
 -- the writer's 1 to 6 and 16
 unfoldable pub writing_format : NumberFormat → Options → Answer Pair

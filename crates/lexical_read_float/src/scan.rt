@@ -80,7 +80,7 @@ fn scan_exponent(text: &[u8], at: usize, radix: u32) -> ScannedTail
 // Behind the mantissa: nothing, or the mark and an exponent.
 fn scan_tail(text: &[u8], from: usize, radix: u32, mark: u8) -> ScannedTail
     requires { (from ≤ length text.now) × (1 ≤ radix) × (radix ≤ 32) }
-    ensures { (mantissaRadix point : ℕ) → result ≡ scanned_tail text.now radix (parse_tail (grammar mantissaRadix radix point mark) (drop from text.now)) }
+    ensures { (mantissa_radix point : ℕ) → result ≡ scanned_tail text.now radix (parse_tail (grammar mantissa_radix radix point mark) (drop from text.now)) }
 {
     if from == text.len() {
         return ScannedTail::Found(Exponent {

@@ -75,7 +75,7 @@ unfolding chain_from
 from_arrives f i F t G [] out x read A all room = last_arrives f i F t G out x read A room
 from_arrives f i F t G (G' ∷ Gs) out x read A all room =
     let h = has_text f F t G x read A in
-    rw (read, h.is_text) (from_arrives f _ _ _ G' Gs out x h.back all.0 all.1 room)
+    rw (read, h.is_text) (from_arrives f (i + 1) _ _ G' Gs out x h.back all.0 all.1 room)
 
 pub never_lost : (f : Format) (F : TextFormat) (t : List ℕ) (G : TextFormat) (Gs : List TextFormat) (out : List ℕ) → NeverLost f F t G Gs out (chain_of f F t G Gs out).answer (chain_of f F t G Gs out).bytes
 never_lost f F t G Gs out = from_arrives f 0 F t G Gs out

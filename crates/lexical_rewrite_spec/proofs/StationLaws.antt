@@ -21,7 +21,7 @@ use Rattle.lexical_read_float_spec.proofs.ReadLaws.{read_is_nearest}
 use Rattle.lexical_rewrite_spec.specs.declared.text_format.TextFormat.{TextFormat}
 use Rattle.lexical_rewrite_spec.specs.Claims.{Denotes}
 use Rattle.lexical_rewrite_spec.specs.Rewrite.{rewritten, read_in, text_in, by_writing, rewrite_answer, rewrite_bytes}
-use Rattle.lexical_rewrite_spec.specs.Chain.{readingRefusedAt, writingRefusedAt, Outcome, goes_on, onward}
+use Rattle.lexical_rewrite_spec.specs.Chain.{reading_refused_at, writing_refused_at, Outcome, goes_on, onward}
 use Rattle.lexical_rewrite_spec.specs.Demand.{IsFloatOf, Admits, Roomy}
 use Rattle.lexical_rewrite_spec.proofs.WrittenLaws.{written_is_exact, written_is_read_back}
 
@@ -64,19 +64,19 @@ module _ (f : Format) (F : TextFormat) (t : List ℕ) (G : TextFormat) (out : Li
 
 -- ---- a station before the last, which writes into bytes with room for every text: whatever they held, its text is handed on
 module _ (f : Format) (i : ℕ) (F : TextFormat) (t : List ℕ) (G : TextFormat) (out scratch : List ℕ) (room : Roomy scratch) (next : List ℕ → Outcome) where
-  pub station_goes_on : goes_on (readingRefusedAt i) out (read_in f F t) (λ x. goes_on (writingRefusedAt i) out (text_in G x) next)
+  pub station_goes_on : goes_on (reading_refused_at i) out (read_in f F t) (λ x. goes_on (writing_refused_at i) out (text_in G x) next)
       ≡ onward i out (rewrite_answer G scratch (read_in f F t)) (λ n. next (take n (rewrite_bytes G scratch (read_in f F t))))
   station_goes_on = go (read_in f F t) refl
     where
       text : (x : Float) → T (fits f x) → (a : Answer (List ℕ)) → text_in G x ≡ a
-          → goes_on (writingRefusedAt i) out a next ≡ onward i out (by_writing (written a scratch)) (λ n. next (take n (held a scratch)))
+          → goes_on (writing_refused_at i) out a next ≡ onward i out (by_writing (written a scratch)) (λ n. next (take n (held a scratch)))
       text x h (refused n p) e = refl
       text x h (done s) e =
           rw (le-leb (length s) (length scratch) (le_trans (longest_text_lem f G.format G.options x s h e) room))
           (ap next (sym (take-append_seam s (drop (length s) scratch))))
 
       go : (a : Answer Float) → read_in f F t ≡ a
-          → goes_on (readingRefusedAt i) out a (λ x. goes_on (writingRefusedAt i) out (text_in G x) next) ≡ onward i out (rewrite_answer G scratch a) (λ n. next (take n (rewrite_bytes G scratch a)))
+          → goes_on (reading_refused_at i) out a (λ x. goes_on (writing_refused_at i) out (text_in G x) next) ≡ onward i out (rewrite_answer G scratch a) (λ n. next (take n (rewrite_bytes G scratch a)))
       go (refused n p) e = refl
       go (done x) e = text x (read_is_nearest f F.format F.options t x e).nearest.held (text_in G x) refl
 

@@ -3,17 +3,17 @@ use Rattle.std.specs.Prelude.{ℕ, ◌+◌, List, [], ◌∷◌, take}
 use Rattle.std.specs.Float.{Format}
 use Rattle.lexical_util.specs.Answer.{Answer, done, refused}
 use Rattle.lexical_rewrite_spec.specs.declared.text_format.TextFormat.{TextFormat}
-use Rattle.lexical_rewrite_spec.specs.Rewrite.{Rewriting, rewritten, readingRefused, writingRefused, read_in, text_in, rewrite_answer, rewrite_bytes}
+use Rattle.lexical_rewrite_spec.specs.Rewrite.{Rewriting, rewritten, reading_refused, writing_refused, read_in, text_in, rewrite_answer, rewrite_bytes}
 
 -- what a chain answers: the length of the last text; or which station refused, counted from 0, in reading or in writing, with number and place
 pub data Chained : Type 0 where
   arrived : ℕ → Chained
-  readingRefusedAt writingRefusedAt : ℕ → ℕ → ℕ → Chained
+  reading_refused_at writing_refused_at : ℕ → ℕ → ℕ → Chained
 
 abbrev pub at_station : ℕ → Rewriting → Chained
 at_station i (rewritten n) = arrived n
-at_station i (readingRefused n p) = readingRefusedAt i n p
-at_station i (writingRefused n p) = writingRefusedAt i n p
+at_station i (reading_refused n p) = reading_refused_at i n p
+at_station i (writing_refused n p) = writing_refused_at i n p
 
 -- the answer, and what the last station's buffer holds then
 pub record Outcome : Type 0 where
@@ -28,7 +28,7 @@ goes_on refusal out (refused n p) next = record { answer = refusal n p; bytes = 
 -- the text t stands in the format F, and station i is the next: one reading of t under F, then one writing in G of the float read. Only that text and its format are handed on; the last station writes into the bytes lent.
 unfoldable pub chain_from : Format → ℕ → TextFormat → List ℕ → TextFormat → List TextFormat → List ℕ → Outcome
 chain_from f i F t G [] out = record { answer = at_station i (rewrite_answer G out (read_in f F t)); bytes = rewrite_bytes G out (read_in f F t) }
-chain_from f i F t G (G' ∷ Gs) out = goes_on (readingRefusedAt i) out (read_in f F t) (λ x. goes_on (writingRefusedAt i) out (text_in G x) (λ text. chain_from f (i + 1) G text G' Gs out))
+chain_from f i F t G (G' ∷ Gs) out = goes_on (reading_refused_at i) out (read_in f F t) (λ x. goes_on (writing_refused_at i) out (text_in G x) (λ text. chain_from f (i + 1) G text G' Gs out))
 
 -- the text t, which stands in the format F, rewritten in G and then in each of Gs; stations are counted from 0
 abbrev pub chain_of : Format → TextFormat → List ℕ → TextFormat → List TextFormat → List ℕ → Outcome
@@ -53,8 +53,8 @@ last_station S (S' ∷ Ss) = last_station S' Ss
 -- once a station has written, the next one goes on; a refusal ends the chain, and the last station's buffer is as it was
 abbrev pub onward : ℕ → List ℕ → Rewriting → (ℕ → Outcome) → Outcome
 onward i out (rewritten n) next = next n
-onward i out (readingRefused n p) next = record { answer = readingRefusedAt i n p; bytes = out }
-onward i out (writingRefused n p) next = record { answer = writingRefusedAt i n p; bytes = out }
+onward i out (reading_refused n p) next = record { answer = reading_refused_at i n p; bytes = out }
+onward i out (writing_refused n p) next = record { answer = writing_refused_at i n p; bytes = out }
 
 -- the text t stands in the format F, and station i is the next. Each later station reads exactly the bytes that the one before it wrote, up to the length returned, under that one's format.
 unfoldable pub chain : Format → ℕ → TextFormat → List ℕ → Station → List Station → Outcome

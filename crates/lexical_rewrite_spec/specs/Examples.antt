@@ -6,7 +6,7 @@ use Rattle.lexical_util.specs.Examples.{bytes, same_bytes, Example}
 use Rattle.lexical_format.specs.declared.options.RoundMode.TheVariants.{Truncate}
 use Rattle.lexical_read_float_spec.specs.Examples.{format, options}
 use Rattle.lexical_rewrite_spec.specs.declared.text_format.TextFormat.{TextFormat}
-use Rattle.lexical_rewrite_spec.specs.Chain.{Chained, arrived, readingRefusedAt, writingRefusedAt, Outcome, chain_of}
+use Rattle.lexical_rewrite_spec.specs.Chain.{Chained, arrived, reading_refused_at, writing_refused_at, Outcome, chain_of}
 use Rattle.lexical_rewrite_spec.specs.Record.{record_size, format_of_record, formats_of, record_of}
 
 -- exponent radix 10, point ".", all else default
@@ -15,14 +15,14 @@ in_pair radix base mark = record { format = format radix base 10; options = opti
 
 abbrev same_chained : Chained → Chained → Bool
 same_chained (arrived n) (arrived m) = eqb n m
-same_chained (arrived n) (readingRefusedAt i m p) = false
-same_chained (arrived n) (writingRefusedAt i m p) = false
-same_chained (readingRefusedAt i n p) (arrived m) = false
-same_chained (readingRefusedAt i n p) (readingRefusedAt j m q) = eqb i j && (eqb n m && eqb p q)
-same_chained (readingRefusedAt i n p) (writingRefusedAt j m q) = false
-same_chained (writingRefusedAt i n p) (arrived m) = false
-same_chained (writingRefusedAt i n p) (readingRefusedAt j m q) = false
-same_chained (writingRefusedAt i n p) (writingRefusedAt j m q) = eqb i j && (eqb n m && eqb p q)
+same_chained (arrived n) (reading_refused_at i m p) = false
+same_chained (arrived n) (writing_refused_at i m p) = false
+same_chained (reading_refused_at i n p) (arrived m) = false
+same_chained (reading_refused_at i n p) (reading_refused_at j m q) = eqb i j && (eqb n m && eqb p q)
+same_chained (reading_refused_at i n p) (writing_refused_at j m q) = false
+same_chained (writing_refused_at i n p) (arrived m) = false
+same_chained (writing_refused_at i n p) (reading_refused_at j m q) = false
+same_chained (writing_refused_at i n p) (writing_refused_at j m q) = eqb i j && (eqb n m && eqb p q)
 
 -- the outcome has this answer and these bytes
 abbrev same_outcome : Outcome → Chained → List ℕ → Bool
@@ -53,24 +53,24 @@ chains =
     sent "one station" binary64 "1.8p0" [] 8 (arrived 3) (bytes "1.G" ++ lent 5)
     ∷ sent "two stations" binary64 "1.8p0" record2 8 (arrived 3) (bytes "1.1" ++ lent 5)
     ∷ sent "just enough bytes" binary64 "1.8p0" record2 3 (arrived 3) (bytes "1.1")
-    ∷ sent "a byte too few" binary64 "1.8p0" record2 2 (writingRefusedAt 1 8 0) (lent 2)
-    ∷ sent "a byte that no text has there" binary64 "1.8q0" record2 8 (readingRefusedAt 0 9 3) (lent 8)
-    ∷ sent "a record cut off before its mark" binary64 "1.8p0" (take (record_size - 1) record2) 8 (writingRefusedAt 1 3 0) (lent 8)
+    ∷ sent "a byte too few" binary64 "1.8p0" record2 2 (writing_refused_at 1 8 0) (lent 2)
+    ∷ sent "a byte that no text has there" binary64 "1.8q0" record2 8 (reading_refused_at 0 9 3) (lent 8)
+    ∷ sent "a record cut off before its mark" binary64 "1.8p0" (take (record_size - 1) record2) 8 (writing_refused_at 1 3 0) (lent 8)
     ∷ sent "2 ^ -24 above 1, kept in 64 bits" binary64 "1.000001p0" record2 30 (arrived 26) (bytes "1.000000000000000000000001" ++ lent 4)
     ∷ sent "and a tie in 32 bits, to the even float" binary32 "1.000001p0" record2 30 (arrived 3) (bytes "1.0" ++ lent 27)
     ∷ sent "the largest float and a digit more" binary64 "F.FFFFFFFFFFFF8Fp1020" [] 18 (arrived 16) (bytes "F.VVVVVVVVVU^204" ++ lent 2)
     ∷ sent "the same in 32 bits" binary32 "F.FFFFF7p124" record2 30 (arrived 29) (bytes "1.11111111111111111111111e127" ++ lent 1)
-    ∷ sent "half a step above the largest float" binary64 "F.FFFFFFFFFFFFCp1020" [] 18 (readingRefusedAt 0 11 0) (lent 18)
+    ∷ sent "half a step above the largest float" binary64 "F.FFFFFFFFFFFFCp1020" [] 18 (reading_refused_at 0 11 0) (lent 18)
     ∷ sent "minus zero" binary64 "-0.0p0" record2 8 (arrived 4) (bytes "-0.0" ++ lent 4)
     ∷ sent "zero" binary64 "0.0p0" record2 8 (arrived 3) (bytes "0.0" ++ lent 5)
     ∷ sent "-1.5" binary64 "-1.8p0" record2 8 (arrived 4) (bytes "-1.1" ++ lent 4)
-    ∷ sent "a byte too few for the sign" binary64 "-1.8p0" record2 3 (writingRefusedAt 1 8 0) (lent 3)
+    ∷ sent "a byte too few for the sign" binary64 "-1.8p0" record2 3 (writing_refused_at 1 8 0) (lent 3)
     ∷ sent "rounded to minus zero" binary32 "-1.0p-151" record2 8 (arrived 4) (bytes "-0.0" ++ lent 4)
-    ∷ sent "two signs" binary64 "--1" record2 8 (readingRefusedAt 0 9 1) (lent 8)
+    ∷ sent "two signs" binary64 "--1" record2 8 (reading_refused_at 0 9 1) (lent 8)
     ∷ sent_wide "width 4" [] (arrived 8) (bytes "1.0^0002" ++ lent 1)
     ∷ sent_wide "widths 4 and 1" record2 (arrived 6) (bytes "1.0e10" ++ lent 3)
     ∷ sent_wide "widths 4, 1 and 3" (record2 ++ record_in 32 32 3 94) (arrived 7) (bytes "1.0^002" ++ lent 2)
-    ∷ sent_wide "widths 4, 1 and 0" (record2 ++ record_in 32 32 0 94) (writingRefusedAt 2 16 0) (lent 9)
+    ∷ sent_wide "widths 4, 1 and 0" (record2 ++ record_in 32 32 0 94) (writing_refused_at 2 16 0) (lent 9)
     ∷ []
 
 -- ---- records

@@ -9,7 +9,7 @@ use Rattle.lexical_rewrite_spec.specs.declared.text_format.TextFormat.{TextForma
 -- what rewriting answers: the length written, or the number and place of the reading's refusal, or of the writing's
 pub data Rewriting : Type 0 where
   rewritten : ℕ → Rewriting
-  readingRefused writingRefused : ℕ → ℕ → Rewriting
+  reading_refused writing_refused : ℕ → ℕ → Rewriting
 
 -- a text's float under the format that it stands in, or the reader's refusal
 abbrev pub read_in : Format → TextFormat → List ℕ → Answer Float
@@ -21,12 +21,12 @@ text_in G x = write_text G.format G.options x
 
 abbrev pub by_writing : Answer ℕ → Rewriting
 by_writing (done n) = rewritten n
-by_writing (refused n p) = writingRefused n p
+by_writing (refused n p) = writing_refused n p
 
 -- after a reading, one writing of the float read into the bytes lent: the answer
 abbrev pub rewrite_answer : TextFormat → List ℕ → Answer Float → Rewriting
 rewrite_answer G out (done x) = by_writing (written (text_in G x) out)
-rewrite_answer G out (refused n p) = readingRefused n p
+rewrite_answer G out (refused n p) = reading_refused n p
 
 -- and what the bytes lent hold then
 abbrev pub rewrite_bytes : TextFormat → List ℕ → Answer Float → List ℕ

@@ -10,8 +10,8 @@ use Rattle.lexical_read_float.proofs.ScanLaws.{sign_inside, text_empty, text_man
 use Rattle.lexical_read_float.proofs.scan.scan.Statement.{statement}
 use Rattle.lexical_read_float.proofs.scan.scan.Tie as tie
 
-abbrev grammarIn : tie.Start → Grammar
-grammarIn c = grammar c.args.radix c.args.exponent_radix c.args.point c.args.mark
+abbrev grammar_in : tie.Start → Grammar
+grammar_in c = grammar c.args.radix c.args.exponent_radix c.args.point c.args.mark
 
 -- the digits begin inside the text
 inside : (c : tie.After-minus-length) → c.minus-length.result ≤ length c.before.before.before.args.text.now
@@ -31,7 +31,7 @@ returns c =
     let m = c.before.before in
     let l = m.before in
     let s = l.before.before.before in
-    (text_empty s.args.text.now s.args.b (grammarIn s) _ _ l.before.stands_at.ensures l.minus-length.ensures _ m.mantissa-digits.ensures.0 c.if1.true, tt)
+    (text_empty s.args.text.now s.args.b (grammar_in s) _ _ l.before.stands_at.ensures l.minus-length.ensures _ m.mantissa-digits.ensures.0 c.if1.true, tt)
 
 with-fraction-requires : tie.Need-with-fraction-requires
 with-fraction-requires c κs = let m = c.before.before in (omega arith, omega arith, omega arith, omega arith, m.mantissa-digits.ensures.2)
@@ -50,7 +50,7 @@ returns-2 c =
     let m = e.before.before in
     let l = m.before in
     let s = l.before.before.before in (
-      c.with_tail.ensures ∙ text_mantissa s.args.text.now s.args.b (grammarIn s) _ _ l.before.stands_at.ensures l.minus-length.ensures _ m.mantissa-digits.ensures.0 _ e.if1.false m.mantissa-digits.ensures.1 f.with-fraction.result _ (τ.scan-tail.ensures s.args.radix s.args.point) m.mantissa-digits.ensures.3 f.with-fraction.ensures.0,
+      c.with_tail.ensures ∙ text_mantissa s.args.text.now s.args.b (grammar_in s) _ _ l.before.stands_at.ensures l.minus-length.ensures _ m.mantissa-digits.ensures.0 _ e.if1.false m.mantissa-digits.ensures.1 f.with-fraction.result _ (τ.scan-tail.ensures s.args.radix s.args.point) m.mantissa-digits.ensures.3 f.with-fraction.ensures.0,
       number_bounded _ f.with-fraction.result.kept f.with-fraction.result.fraction τ.scan-tail.result _ (omega (arith, f.with-fraction.ensures.1)) f.with-fraction.ensures.1.2 c.with_tail.ensures,
     )
 
