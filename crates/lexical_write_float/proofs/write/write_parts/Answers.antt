@@ -1,0 +1,14 @@
+-- `lexical_write_float::write::write_parts` meets its contract: the check's refusal, or what the parts are asked for. Assumes nothing.
+use mathlib.Core.Path.{◌≡◌, refl, sym, ap, ◌∙◌}
+use Rattle.lexical_util.specs.Answer.{done}
+use Rattle.lexical_format.specs.Format.{checked_format, of_writing_check}
+use Rattle.lexical_write_float.proofs.AnswerLaws.{passed}
+use borrow.Author.Rules.{rules}
+use Rattle.lexical_write_float.proofs.write.write_parts.Goals.{In-Passed}
+use Rattle.lexical_write_float.proofs.write.write_parts.Goals as goal
+
+admitted : (c : In-Passed) → let a = c.args in checked_format a.format a.options ≡ done c.in-Passed.checked
+admitted c = sym (c.in-Passed.ensures)
+
+pub write_checked-requires : goal.write_checked-requires
+write_checked-requires c = (passed _ _ _ (sym (admitted (goal.at.write_checked-requires c).In-Passed)), c.requires)
