@@ -14,7 +14,7 @@ use Rattle.lexical_read_float.proofs.digits.exponent_digits.Goals.{At-loop-i}
 use Rattle.lexical_read_float.proofs.digits.exponent_digits.Goals as goal
 
 -- no digit stands at the loop's place
-stopped : (c : At-loop-i invariant-loop decreases-loop) → digits_from c.args.radix c.args.text.now c.loop-i.i ≡ []
+stopped : (c : At-loop-i) → digits_from c.args.radix c.args.text.now c.loop-i.i ≡ []
     → (let a = c.args in
     (c.loop-i.i ≡ end_from a.radix a.text.now a.from) × (c.loop-i.magnitude ≡ min (digits_value a.radix (digits_from a.radix a.text.now a.from)) too_great)
     × (c.loop-i.i ≤ length a.text.now))

@@ -13,7 +13,7 @@ use Rattle.lexical_read_float.proofs.digits.further_digits.Goals.{At-loop-i}
 use Rattle.lexical_read_float.proofs.digits.further_digits.Goals as goal
 
 -- no digit stands at the loop's place
-stopped : (c : At-loop-i invariant-loop decreases-loop) → digits_from c.args.radix c.args.text.now c.loop-i.i ≡ []
+stopped : (c : At-loop-i) → digits_from c.args.radix c.args.text.now c.loop-i.i ≡ []
     → (let a = c.args in
     (c.loop-i.i ≡ end_from a.radix a.text.now a.from) × (eqb c.loop-i.seen 0 ≡ all_zero (digits_from a.radix a.text.now a.from)) × (c.loop-i.i ≤ length a.text.now))
 stopped c e = let v = c.loop-i.invariant in (end_here _ _ _ _ v.1 e, zeros_done c.loop-i.seen _ _ v.2 e, v.0)

@@ -17,7 +17,7 @@ abbrev pub invariant-loop-i : goal.invariant-loop-i
 invariant-loop-i l =
     (l.from ≤ l.i) × (l.i ≤ length l.text) × (end_from l.radix l.text l.i ≡ end_from l.radix l.text l.from)
     × ((below : ℕ) (clear : Bool)
-    → keep_digits l.b (record { l.bits = l.bits; below = below; clear = clear }) (digits_from l.radix l.text l.i) ≡ keep_digits l.b (record { l.bits = l.start; below = below; clear = clear }) (digits_from l.radix l.text l.from))
+    → keep_digits l.b (record { bits = l.bits; below = below; clear = clear }) (digits_from l.radix l.text l.i) ≡ keep_digits l.b (record { bits = l.start; below = below; clear = clear }) (digits_from l.radix l.text l.from))
 
 abbrev pub decreases-loop-i : goal.decreases-loop-i
 decreases-loop-i l = length l.text - l.i
