@@ -50,8 +50,8 @@ Of a call from C, counted by callgrind, with those of the loop around it: random
 |---|---|---|---|
 END
 [ -z "${BEFORE:-}" ] || rows "$BEFORE" ", ${WHEN:-before}"
-rows ../target/staticlib/libexports.a ''
-compiled packing ../target/staticlib/libexports.a
+rows ../crates/exports/out/libexports.a ''
+compiled packing ../crates/exports/out/libexports.a
 cat <<'END'
 
 Packing looks at no float, so its count is the same for every table of 400 windows.

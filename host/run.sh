@@ -3,10 +3,10 @@
 set -eu
 cd "$(dirname "$0")/.."
 
-rt staticlib exports
+(cd crates/exports && rt lib)
 mkdir -p host/target
 for example in week trace; do
-    "${CC:-cc}" -std=c11 -O2 -Wall -Wextra -Ihost/include "host/c/$example.c" -o "host/target/$example" target/staticlib/libexports.a
+    "${CC:-cc}" -std=c11 -O2 -Wall -Wextra -Ihost/include "host/c/$example.c" -o "host/target/$example" crates/exports/out/libexports.a
 done
 
 echo "== C"

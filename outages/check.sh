@@ -2,9 +2,13 @@
 # Runs the programs over tables, sheets and packed tables, and compares what they write with what the documents say.
 set -eu
 here=$(cd "$(dirname "$0")" && pwd)
-bin=$here/../target/bin
 work=$(mktemp -d)
 trap 'rm -rf "$work"' EXIT
+bin=$work/bin
+mkdir "$bin"
+for program in print_sheet read_sheet rewrite_sheet pack_table unpack_table; do
+    ln -s "$here/../crates/$program/out/$program" "$bin/$program"
+done
 
 fail() {
     echo "$1: wrong" >&2

@@ -1,7 +1,9 @@
 #!/usr/bin/env python3
 """Runs the sheet programs and the archive's over random tables, sheets and packed tables, many of them damaged somewhere, and compares every byte that they write with the references `sheet_edges.py` and `plane_edges.py` of the program `vectors`, which have no code of theirs:
 
-    rt check print_sheet read_sheet rewrite_sheet pack_table unpack_table && python3 outages/random.py SEED COUNT
+    rt ci && python3 outages/random.py SEED COUNT
+
+The programs are where `rt ci` leaves them, each in its crate's out/.
 """
 import os
 import random
@@ -26,7 +28,7 @@ TELLING = b" \n0.p+-A/"
 
 def wrote(program, names, given):
     arguments = ["/".join(map(str, name)) for name in names]
-    return subprocess.run([os.path.join(HOME, "target", "bin", program), *arguments], input=given, capture_output=True).stdout
+    return subprocess.run([os.path.join(HOME, "crates", program, "out", program), *arguments], input=given, capture_output=True).stdout
 
 
 def format_of(name):

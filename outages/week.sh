@@ -4,16 +4,19 @@
 #
 #     outages/week.sh [table]
 #
-# The programs come from target/bin; what is missing there is built.
+# The programs are where rt leaves them, as crates/print_sheet/out/print_sheet; what is missing there is proved and built.
 set -eu
 home=$(cd "$(dirname "$0")/.." && pwd)
 monday=${1:-$home/outages/monday.table}
-bin=$home/target/bin
-for program in print_sheet rewrite_sheet read_sheet; do
-    [ -x "$bin/$program" ] || (cd "$home" && rt check "$program")
-done
 week=$(mktemp -d)
 trap 'rm -rf "$week"' EXIT
+bin=$week/bin
+mkdir "$bin"
+for program in print_sheet rewrite_sheet read_sheet; do
+    built=$home/crates/$program/out/$program
+    [ -x "$built" ] || (cd "$home/crates/$program" && rt run < /dev/null > /dev/null) || [ -x "$built" ]
+    ln -s "$built" "$bin/$program"
+done
 
 "$bin/print_sheet" < "$monday" > "$week/tuesday"
 "$bin/rewrite_sheet" 16/2/10 32/32/10 < "$week/tuesday" > "$week/wednesday"

@@ -1,6 +1,6 @@
 /* Number text in power-of-two radices, outage sheets, and packed tables.
  *
- * Link with libexports.a, which `rt staticlib exports` writes to target/staticlib/. Each call ends,
+ * Link with libexports.a, which `rt lib` in crates/exports writes to its out/. Each call ends,
  * checks its own arguments, and answers a result or a refusal: number 0 and a value, or the number
  * and place of a refusal and value 0. docs/FORMAT.md has every call and every refusal. On a refusal
  * every byte of the buffer is as it was; after a text, the bytes past it are as they were.
