@@ -17,7 +17,6 @@ use lib.Ieee.Exact.{HasValue, odd_sign}
 use lib.Ieee.Scale.{finite}
 use Rattle.lexical_float.specs.declared.num.Parts.{Parts}
 use Rattle.lexical_float.specs.declared.num.Parts.TheVariants.{Finite, Special}
-use Rattle.lexical_float.specs.Fields.{mantissa, exponent}
 use Rattle.lexical_float.specs.Encoding.{bits_of}
 use Rattle.lexical_float.specs.Parts.{magnitude_of, parts_of, IsValue}
 use Rattle.lexical_float.specs.Claims.{PartsAreTheValue}

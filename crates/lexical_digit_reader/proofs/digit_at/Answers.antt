@@ -1,6 +1,5 @@
 -- `lexical_digit_reader::digit_at` meets its contract: the test says whether a byte stands at the place. Assumes nothing.
 use mathlib.Core.Path.{sym, ◌∙◌}
-use borrow.Author.Rules.{rules}
 use Rattle.lexical_digit_reader.proofs.PlaceLaws.{digit_here, digit_past}
 use Rattle.lexical_digit_reader.proofs.digit_at.Goals as goal
 

@@ -1,6 +1,5 @@
 -- `lexical_digit_reader::place_after` meets its contract: the test says whether a byte stands at the place. Assumes nothing.
 use mathlib.Core.Path.{sym}
-use borrow.Author.Rules.{rules}
 use Rattle.lexical_digit_reader.proofs.PlaceLaws.{place_here, place_past}
 use Rattle.lexical_digit_reader.proofs.place_after.Goals as goal
 

@@ -1,14 +1,10 @@
 -- `lexical_exponent::exponent::base_exponent` meets its contract: the sign by the test, the magnitude by the quotient, which is exact by `power_exact`. Assumes nothing.
 use mathlib.Core.Path.{◌≡◌}
-use native.Mathlib.Omega.{arith}
-use borrow.Author.Rules.{rules}
-use lib.IntN.{pos, nat_abs}
-use lib.Signed.{lt_z}
+use lib.IntN.{nat_abs}
 use mir.Syntax.{w32}
 use mir.Val.{to_z, of_z}
 use mir.Facts.{to_z-of_z}
-use Rattle.lexical_exponent.specs.Exponent.{is_negative}
-use Rattle.lexical_exponent.proofs.ExponentLaws.{sign_is, product_fits, power_none, power_exact}
+use Rattle.lexical_exponent.proofs.ExponentLaws.{power_exact}
 use Rattle.lexical_exponent.proofs.exponent.base_exponent.Goals.{After-struct_told-1, After-unsigned_abs}
 use Rattle.lexical_exponent.proofs.exponent.base_exponent.Goals as goal
 

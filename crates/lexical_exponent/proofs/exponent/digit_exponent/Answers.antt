@@ -1,15 +1,14 @@
 -- `lexical_exponent::exponent::digit_exponent` meets its contract: by the sign of s, and by whether digits have bits at all. Assumes nothing.
-use mathlib.Core.Path.{◌≡◌, ◌∙◌}
-use mathlib.Core.Bool.{true, false}
+use mathlib.Core.Path.{◌≡◌}
+use mathlib.Core.Bool.{true}
 use native.Mathlib.Omega.{arith}
-use borrow.Author.Rules.{rules}
 use lib.IntN.{ℤ, pos, nat_abs, ◌-ℤ◌}
 use lib.Signed.{lt_z}
 use mir.Syntax.{w32, w64}
 use mir.Val.{SFits, to_z, of_z}
 use mir.Facts.{to_z-of_z, to_z_pos, sfits_widen}
 use Rattle.lexical_exponent.specs.Exponent.{place}
-use Rattle.lexical_exponent.proofs.ExponentLaws.{place_fits, place_below, place_above, place_none_below, place_none_above, floored}
+use Rattle.lexical_exponent.proofs.ExponentLaws.{place_fits, place_below, floored}
 use Rattle.lexical_exponent.proofs.exponent.digit_exponent.Goals.{After-fast_ceildiv-digits, After-struct_told-1, After-unsigned_abs-magnitude, Then-bits-lt0}
 use Rattle.lexical_exponent.proofs.exponent.digit_exponent.Goals as goal
 

@@ -5,7 +5,7 @@ use mathlib.Core.Bool.{Bool}
 use native.Mathlib.Omega.{arith}
 use lib.IntN.{pos, ◌*ℤ◌}
 use Rattle.lexical_exponent.specs.Exponent.{clamped, signed}
-use Rattle.lexical_exponent.proofs.ExponentLaws.{power_fits, power_casts, power_above, power_below_fits, power_below, few_same}
+use Rattle.lexical_exponent.proofs.ExponentLaws.{power_above, power_below_fits, power_below, few_same}
 use Rattle.lexical_exponent.proofs.exponent.powers_in_bits.Goals.{After-at_most_past-powers}
 use Rattle.lexical_exponent.proofs.exponent.powers_in_bits.Goals as goal
 

@@ -2,11 +2,10 @@
 use Prim.Native.Nat.{ℕ, ◌-◌, ◌<◌}
 use mathlib.Core.Path.{◌≡◌, sym, ap, ◌∙◌}
 use native.Mathlib.Nat.{pos_of_ne-zero}
-use borrow.Author.Rules.{rules}
 use lib.IntN.{ℤ, pos, ◌+ℤ◌}
 use lib.Ieee.{size}
 use Rattle.lexical_exponent.specs.Exponent.{clamped, scale, LeadingBit}
-use Rattle.lexical_exponent.proofs.ExponentLaws.{scale_zero, scale_is, leading_bit}
+use Rattle.lexical_exponent.proofs.ExponentLaws.{scale_is, leading_bit}
 use Rattle.lexical_exponent.proofs.PowerLaws.{size_zero}
 use Rattle.lexical_exponent.proofs.exponent.sci_exp.Goals.{Start}
 use Rattle.lexical_exponent.proofs.exponent.sci_exp.Goals as goal

@@ -1,6 +1,5 @@
 -- `lexical_exponent::exponent::significant_bits` meets its contract. Assumes nothing.
 use native.Mathlib.Omega.{arith}
-use lib.Count.{leading_le}
 use Rattle.lexical_exponent.proofs.ExponentLaws.{bits_are}
 use Rattle.lexical_exponent.proofs.exponent.significant_bits.Goals as goal
 

@@ -1,5 +1,4 @@
 -- `lexical_float::encoding::is_special` meets its contract: a float is not finite where its bits below the sign reach the infinity's. Assumes nothing.
-use borrow.Author.Rules.{rules}
 use Rattle.lexical_float.specs.Encoding.{of_width}
 use Rattle.lexical_float.proofs.EncodingLaws as L
 use Rattle.lexical_float.proofs.encoding.is_special.Goals as goal

@@ -1,6 +1,4 @@
 -- `lexical_float::encoding::magnitude_of_bits` meets its contract: its masks and sums are the fields of the bits. Assumes nothing.
-use native.Mathlib.Omega.{arith}
-use borrow.Author.Rules.{rules}
 use lib.Ieee.{Format}
 use Rattle.lexical_float.specs.Encoding.{of_width}
 use Rattle.lexical_float.proofs.EncodingLaws as L

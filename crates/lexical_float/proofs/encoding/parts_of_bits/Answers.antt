@@ -1,6 +1,5 @@
 -- `lexical_float::encoding::parts_of_bits` meets its contract: its tests tell the cases of a bit pattern apart, and its sign. Assumes nothing.
 use mathlib.Core.Path.{sym, ◌∙◌}
-use borrow.Author.Rules.{rules}
 use lib.Ieee.{Format}
 use Rattle.lexical_float.specs.Encoding.{of_width}
 use Rattle.lexical_float.proofs.PartsLaws.{special_parts}

@@ -1,7 +1,5 @@
 -- `lexical_format::checks::check` meets its contract: the writer's check is the reader's, then its own four. Assumes nothing.
-use mathlib.Core.Path.{sym, ap, ◌∙◌}
-use borrow.Author.Rules.{rules}
-use Rattle.lexical_format.specs.Format.{of_reading_check}
+use mathlib.Core.Path.{sym}
 use Rattle.lexical_format.proofs.CheckLaws.{reading_of_lem, writer_after_reader}
 use Rattle.lexical_format.proofs.checks.check.Goals as goal
 

@@ -2,10 +2,9 @@
 use mathlib.Core.Path.{◌≡◌, sym, ap, ◌∙◌}
 use mathlib.Core.Bool.{not}
 use mathlib.Core.Option.{some}
-use borrow.Author.Rules.{rules}
 use Rattle.lexical_util.specs.Digit.{is_radix}
 use Rattle.lexical_format.specs.Code.{reading_of}
-use Rattle.lexical_format.specs.Format.{pairs, find_pair, of_found_pair}
+use Rattle.lexical_format.specs.Format.{pairs, find_pair}
 use Rattle.lexical_format.proofs.checks.check_numbers.Goals.{After-is_radix, In-Row}
 use Rattle.lexical_format.proofs.checks.check_numbers.Goals as goal
 

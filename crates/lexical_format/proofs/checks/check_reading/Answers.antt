@@ -1,6 +1,5 @@
 -- `lexical_format::checks::check_reading` meets its contract: the checks look at these five numbers alone. Assumes nothing.
 use mathlib.Core.Path.{◌∙◌}
-use borrow.Author.Rules.{rules}
 use Rattle.lexical_format.proofs.CheckLaws.{reading_of_lem}
 use Rattle.lexical_format.proofs.checks.check_reading.Goals as goal
 

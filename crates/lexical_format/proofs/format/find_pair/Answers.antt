@@ -1,8 +1,6 @@
 -- `lexical_format::format::find_pair` meets its contract: the search of the rows from i on answers what the search of all of them does. Assumes nothing.
-use Prim.Native.Nat.{◌≤◌, ◌-◌}
 use mathlib.Core.Path.{◌≡◌, refl, sym, ◌∙◌}
 use native.Mathlib.Omega.{arith}
-use lib.ListN.{drop}
 use Rattle.lexical_format.specs.declared.format.Pair.{Pair}
 use Rattle.lexical_format.specs.Format.{pair, pairs, find_pair}
 use Rattle.lexical_format.proofs.FormatLaws.{row_is_pair}

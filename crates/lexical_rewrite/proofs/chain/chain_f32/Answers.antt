@@ -9,4 +9,4 @@ use Rattle.lexical_rewrite.proofs.chain.chain_f32.Goals as goal
 pub returns-clause-never_lost : goal.returns-clause-never_lost
 returns-clause-never_lost c = let k = c.chain in
     let a = c.args in
-    never_lost_by binary32 a.from a.text.now a.first (formats_of a.further.now) a.buffer.now (of_chained k.result) _ k.ensures.0 k.ensures.1
+    never_lost_by binary32 a.from a.text.now a.first (formats_of a.further.now) a.buffer.now (of_chained k.result) _ k.ensures.result_value k.ensures.buffer_after

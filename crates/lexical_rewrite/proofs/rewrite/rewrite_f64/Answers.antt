@@ -7,5 +7,7 @@ use Rattle.lexical_rewrite.proofs.rewrite.rewrite_f64.Goals as goal
 
 pub returns-clause-same_bytes : goal.returns-clause-same_bytes
 returns-clause-same_bytes c = let a = c.args in
-    let e = rw c.read_f64-answer.ensures.result_value at (c.write_read_f64.ensures.result_value, c.write_read_f64.ensures.buffer_after) in
-    same_as_others_by binary64 a.from a.text.now a.to a.buffer.now (of_rewritten c.write_read_f64.result) _ e.0 e.1
+    let r = c.read_f64-answer.ensures.result_value in
+    let e = rw r at c.write_read_f64.ensures.result_value in
+    let b = rw r at c.write_read_f64.ensures.buffer_after in
+    same_as_others_by binary64 a.from a.text.now a.to a.buffer.now (of_rewritten c.write_read_f64.result) _ e b

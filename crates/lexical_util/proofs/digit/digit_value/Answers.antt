@@ -2,7 +2,6 @@
 use mathlib.Core.Path.{sym, ap, ◌∙◌}
 use mathlib.Core.Option.{some}
 use native.Mathlib.Omega.{arith}
-use borrow.Author.Rules.{rules}
 use Rattle.lexical_util.proofs.DigitLaws.{value_figure, value_capital, value_low, value_between, value_high}
 use Rattle.lexical_util.proofs.digit.digit_value.Goals as goal
 

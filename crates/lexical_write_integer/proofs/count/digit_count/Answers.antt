@@ -1,6 +1,5 @@
 -- `lexical_write_integer::count::digit_count` meets its contract: one law for each answer. Assumes nothing.
 use mathlib.Core.Path.{refl, sym, ◌∙◌}
-use borrow.Author.Rules.{rules}
 use Rattle.lexical_util.specs.Digit.{is_radix}
 use Rattle.lexical_util.proofs.BitsLaws.{power_of}
 use Rattle.lexical_write_integer_spec.proofs.DigitsAnswer.{log_known, count_widened, count_unknown}

@@ -2,7 +2,6 @@
 use Prim.Native.Nat.{◌+◌, ◌-◌}
 use mathlib.Core.Path.{◌≡◌, sym, ◌∙◌}
 use native.Mathlib.Omega.{arith}
-use borrow.Author.Rules.{rules}
 use lib.Ieee.{size}
 use Rattle.lexical_write_integer_spec.specs.Write.{digit_log}
 use Rattle.lexical_write_integer_spec.proofs.CountLaws.{count_ceil}

@@ -1,10 +1,6 @@
 -- `lexical_write_integer::decimal::decimal` meets its contract: the digits left and the bytes stored are the whole. Assumes nothing.
-use Prim.Native.Nat.{◌≤◌}
-use mathlib.Core.Path.{◌≡◌, refl}
-use mathlib.Core.List.{◌++◌}
 use native.Mathlib.Omega.{arith}
-use lib.ListN.{length, drop, length-set}
-use Rattle.lexical_write_integer_spec.specs.Write.{last_numeral}
+use lib.ListN.{length-set}
 use Rattle.lexical_write_integer.proofs.FillLaws.{back_step, back_end}
 use Rattle.lexical_write_integer.proofs.decimal.decimal.Goals as goal
 

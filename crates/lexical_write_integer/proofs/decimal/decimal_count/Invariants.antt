@@ -1,10 +1,8 @@
 -- `lexical_write_integer::decimal::decimal_count` meets its contract: the digits counted and those left are one more than all. Assumes nothing.
 use Prim.Native.Nat.{◌+◌, ◌≤◌}
 use mathlib.Core.Path.{◌≡◌}
-use native.Mathlib.Omega.{arith}
 use lib.ListN.{length}
 use Rattle.lexical_write_integer_spec.specs.Digits.{digits}
-use Rattle.lexical_write_integer_spec.proofs.DigitsLaws.{count_lt, count_ge}
 use Rattle.lexical_write_integer.proofs.decimal.decimal_count.Given as goal
 
 abbrev pub invariant-loop-v : goal.invariant-loop-v

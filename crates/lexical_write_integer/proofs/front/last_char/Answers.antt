@@ -1,10 +1,8 @@
 -- `lexical_write_integer::front::last_char` meets its contract: the mask keeps the remainder, whose byte the table has. Assumes nothing.
 use mathlib.Core.Path.{ap, ◌∙◌}
 use native.Mathlib.Omega.{arith}
-use borrow.Author.Rules.{rules}
-use lib.Pow.{pow_pos}
 use Rattle.lexical_util.specs.Digit.{digit_byte}
-use Rattle.lexical_write_integer.proofs.FillLaws.{shifted, mask_is, masked, masked_lt}
+use Rattle.lexical_write_integer.proofs.FillLaws.{mask_is, masked, masked_lt}
 use Rattle.lexical_write_integer.proofs.front.last_char.Goals as goal
 
 pub lent_char-requires : goal.lent_char-requires

@@ -1,9 +1,7 @@
 -- `lexical_write_integer::front::last_pair` meets its contract: the mask keeps the remainder. Assumes nothing.
 use Prim.Native.Nat.{◌+◌}
 use native.Mathlib.Omega.{arith}
-use borrow.Author.Rules.{rules}
-use lib.Pow.{pow_pos}
-use Rattle.lexical_write_integer.proofs.FillLaws.{shifted, mask_is, masked}
+use Rattle.lexical_write_integer.proofs.FillLaws.{mask_is, masked}
 use Rattle.lexical_write_integer.proofs.front.last_pair.Goals as goal
 
 pub returns : goal.returns

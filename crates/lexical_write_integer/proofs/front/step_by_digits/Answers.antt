@@ -1,11 +1,8 @@
 -- `lexical_write_integer::front::step_by_digits` meets its contract: what it stores are the next digits, one or two. Assumes nothing.
-use Prim.Native.Nat.{◌+◌, ◌-◌}
 use mathlib.Core.Path.{◌≡◌}
 use native.Mathlib.Numerals.{add-one}
 use native.Mathlib.Omega.{arith}
-use borrow.Author.Rules.{rules}
-use lib.ListN.{length-set}
-use Rattle.lexical_write_integer.proofs.StepLaws.{place_small, one_digit, two_digits, stored}
+use Rattle.lexical_write_integer.proofs.StepLaws.{one_digit, two_digits, stored}
 use Rattle.lexical_write_integer.proofs.front.step_by_digits.Goals as goal
 
 pub returns-then-digits-eq1-clause-buffer_after : goal.returns-then-digits-eq1-clause-buffer_after

@@ -1,14 +1,10 @@
 -- `lexical_write_integer::front::step_by_pair` meets its contract: the pair of the table is the next two digits. Assumes nothing.
-use Prim.Native.Nat.{◌+◌, ◌-◌, ◌*◌, ◌^◌, ◌<◌}
-use mathlib.Core.Path.{refl}
-use native.Mathlib.Nat.{mod-lt}
+use Prim.Native.Nat.{◌+◌, ◌*◌}
 use native.Mathlib.Numerals.{add-one}
 use native.Mathlib.Omega.{arith}
-use borrow.Author.Rules.{rules}
-use lib.ListN.{length, get_or, length-set}
-use lib.Pow.{pow_pos, pow_mono}
+use lib.ListN.{get_or}
 use Rattle.lexical_write_integer.proofs.PairLaws.{pair_digits}
-use Rattle.lexical_write_integer.proofs.StepLaws.{place_small, stored}
+use Rattle.lexical_write_integer.proofs.StepLaws.{stored}
 use Rattle.lexical_write_integer.proofs.front.step_by_pair.Goals as goal
 
 pub returns : goal.returns

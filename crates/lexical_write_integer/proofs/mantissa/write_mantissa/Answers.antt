@@ -2,8 +2,7 @@
 use mathlib.Core.Path.{◌∙◌}
 use mathlib.Core.Logic.{inl, inr, ⊎_elim}
 use native.Mathlib.Omega.{arith}
-use borrow.Author.Rules.{rules}
-use borrow.Author.Tests.{ltb-true, ltb-false}
+use borrow.Author.Tests.{ltb-false}
 use Rattle.lexical_write_integer_spec.proofs.FrontLaws.{grows_more, grows_all}
 use Rattle.lexical_write_integer_spec.proofs.MantissaAnswer.{unknown, short, fits}
 use Rattle.lexical_write_integer.proofs.mantissa.write_mantissa.Goals as goal

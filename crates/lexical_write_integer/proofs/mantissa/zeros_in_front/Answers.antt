@@ -1,14 +1,8 @@
 -- `lexical_write_integer::mantissa::zeros_in_front` meets its contract: a digit that no u64 reaches is 0. Assumes nothing.
-use Prim.Native.Nat.{ℕ, ◌+◌, ◌-◌, ◌/◌, ◌^◌, ◌≤◌, ◌<◌}
-use mathlib.Core.Path.{◌≡◌, refl}
-use native.Mathlib.Nat.{div-le_self, mul-le-mul_left, lt_of_le_of_lt}
 use native.Mathlib.Omega.{arith}
-use borrow.Author.Rules.{rules}
-use lib.ListN.{length, length-set}
-use Rattle.lexical_write_integer_spec.specs.Write.{last_numeral}
-use Rattle.lexical_write_integer_spec.specs.Front.{Grows}
-use Rattle.lexical_write_integer_spec.proofs.FrontLaws.{grows_none, grows_more}
-use Rattle.lexical_write_integer.proofs.StepLaws.{most_digits, zero_stored}
+use lib.ListN.{length-set}
+use Rattle.lexical_write_integer_spec.proofs.FrontLaws.{grows_more}
+use Rattle.lexical_write_integer.proofs.StepLaws.{zero_stored}
 use Rattle.lexical_write_integer.proofs.mantissa.zeros_in_front.Goals as goal
 
 pub loop-at-preserved : goal.loop-at-preserved

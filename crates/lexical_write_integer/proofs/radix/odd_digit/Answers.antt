@@ -1,8 +1,6 @@
 -- `lexical_write_integer::radix::odd_digit` meets its contract: one step, or none. Assumes nothing.
 use native.Mathlib.Omega.{arith}
-use borrow.Author.Rules.{rules}
 use Rattle.lexical_util.specs.Digit.{digit_byte}
-use Rattle.lexical_write_integer_spec.proofs.FrontLaws.{grows_none}
 use Rattle.lexical_write_integer.proofs.PairLaws.{digits_follow}
 use Rattle.lexical_write_integer.proofs.radix.odd_digit.Goals as goal
 

@@ -1,11 +1,8 @@
 -- `lexical_write_integer::radix::radix` meets its contract: each step goes on from the bytes so far. Assumes nothing.
-use Prim.Native.Nat.{◌-◌, ◌^◌}
 use native.Mathlib.Omega.{arith}
 use Rattle.lexical_util.specs.Digit.{digit_byte}
-use Rattle.lexical_write_integer_spec.specs.Write.{last_numeral}
-use Rattle.lexical_write_integer.specs.Table.{DigitTable}
 use Rattle.lexical_write_integer.proofs.PairLaws.{digits_follow}
-use Rattle.lexical_write_integer.proofs.StepLaws.{shorter, Filled, filled_none, filled_more, filled_all}
+use Rattle.lexical_write_integer.proofs.StepLaws.{filled_none}
 use Rattle.lexical_write_integer.proofs.radix.radix.Goals as goal
 
 pub loop-at-init : goal.loop-at-init

@@ -1,9 +1,6 @@
 -- `lexical_write_integer::radix::radix_32` meets its contract: the loop goes on to the last digit, or nothing is left. antt computes the table from its rule, and compares. Assumes nothing.
-use mathlib.Core.Path.{◌≡◌}
 use native.Mathlib.Omega.{arith}
-use borrow.Author.Rules.{rules}
 use Rattle.lexical_util.specs.Digit.{digit_byte}
-use Rattle.lexical_write_integer_spec.proofs.FrontLaws.{grows_none}
 use Rattle.lexical_write_integer.specs.Table.{pair_byte}
 use Rattle.lexical_write_integer.proofs.PairLaws.{pairs_follow}
 use Rattle.lexical_write_integer.proofs.radix.radix_32.Goals as goal

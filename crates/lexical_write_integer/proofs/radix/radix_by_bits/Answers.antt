@@ -2,9 +2,7 @@
 use Prim.Native.Nat.{◌-◌, ◌*◌, ◌<◌}
 use mathlib.Core.Path.{◌≡◌}
 use native.Mathlib.Omega.{arith}
-use borrow.Author.Rules.{rules}
 use Rattle.lexical_util.specs.Digit.{digit_byte}
-use Rattle.lexical_write_integer_spec.proofs.FrontLaws.{grows_more}
 use Rattle.lexical_write_integer.specs.Table.{pair_byte}
 use Rattle.lexical_write_integer.proofs.PairLaws.{pairs_follow}
 use Rattle.lexical_write_integer.proofs.StepLaws.{shorter}

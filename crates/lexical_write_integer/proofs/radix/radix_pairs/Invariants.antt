@@ -1,8 +1,7 @@
 -- `lexical_write_integer::radix::radix_pairs` meets its contract: each step goes on from the bytes so far. Assumes nothing.
 use Prim.Native.Nat.{◌-◌, ◌^◌}
-use native.Mathlib.Omega.{arith}
 use Rattle.lexical_write_integer_spec.specs.Write.{last_numeral}
-use Rattle.lexical_write_integer.proofs.StepLaws.{shorter, Filled, filled_none, filled_more, filled_all}
+use Rattle.lexical_write_integer.proofs.StepLaws.{Filled}
 use Rattle.lexical_write_integer.proofs.radix.radix_pairs.Given as goal
 
 abbrev pub invariant-loop-at : goal.invariant-loop-at

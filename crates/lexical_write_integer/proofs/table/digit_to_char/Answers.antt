@@ -1,7 +1,6 @@
 -- `lexical_write_integer::table::digit_to_char` meets its contract. Assumes nothing.
 use mathlib.Core.Path.{sym}
 use native.Mathlib.Omega.{arith}
-use borrow.Author.Rules.{rules}
 use Rattle.lexical_util.proofs.DigitLaws.{byte_figure, byte_capital}
 use Rattle.lexical_write_integer.proofs.table.digit_to_char.Goals as goal
 

@@ -2,7 +2,6 @@
 use Prim.Native.Nat.{◌-◌}
 use mathlib.Core.Path.{◌≡◌}
 use native.Mathlib.Omega.{arith}
-use borrow.Author.Rules.{rules}
 use Rattle.lexical_util.specs.Digit.{digit_byte}
 use Rattle.lexical_write_integer_spec.proofs.StepAnswer.{step_odd, step_even}
 use Rattle.lexical_write_integer.specs.Table.{pair_byte}

@@ -2,7 +2,6 @@
 use mathlib.Core.Path.{sym, ◌∙◌}
 use native.Mathlib.Nat.{sub-zero}
 use native.Mathlib.Omega.{arith}
-use borrow.Author.Rules.{rules}
 use Rattle.lexical_util.proofs.BitsLaws.{Power, power_of}
 use Rattle.lexical_write_integer_spec.proofs.FrontLaws.{grows_all, begun_whole}
 use Rattle.lexical_write_integer_spec.proofs.LastLaws.{length_last}

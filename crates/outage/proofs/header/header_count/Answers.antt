@@ -23,10 +23,10 @@ pub returns-then-n-gt-MOST : goal.returns-then-n-gt-MOST
 returns-then-n-gt-MOST c = c.wrong-then-n-gt-MOST.ensures ∙ count_many _ _ _ (count (goal.at.returns-then-n-gt-MOST c).After-word_of-n) (omega arith) (omega arith)
 
 pub returns-then-word_of-n : goal.returns-then-word_of-n
-returns-then-word_of-n c =     c.wrong-then-word_of-n.ensures ∙ count_field _ _ _ (count (goal.at.returns-then-word_of-n c).After-word_of-n) (omega arith) _ (field (goal.at.returns-then-word_of-n c).After-word_of) (omega arith) c.if-word_of-n.true
+returns-then-word_of-n c = c.wrong-then-word_of-n.ensures ∙ count_field _ _ _ (count (goal.at.returns-then-word_of-n c).After-word_of-n) (omega arith) _ (field (goal.at.returns-then-word_of-n c).After-word_of) (omega arith) c.if-word_of-n.true
 
 pub returns-then-table-n : goal.returns-then-table-n
-returns-then-table-n c =     c.wrong-then-table-n.ensures ∙ count_lent _ _ _ (count (goal.at.returns-then-table-n c).After-word_of-n) (omega arith) _ (field (goal.at.returns-then-table-n c).After-word_of) (omega arith) (omega arith) c.if-table-n.true
+returns-then-table-n c = c.wrong-then-table-n.ensures ∙ count_lent _ _ _ (count (goal.at.returns-then-table-n c).After-word_of-n) (omega arith) _ (field (goal.at.returns-then-table-n c).After-word_of) (omega arith) (omega arith) c.if-table-n.true
 
 pub returns : goal.returns
-returns c =     count_is _ _ _ (count (goal.at.returns c).After-word_of-n) (omega arith) _ (field (goal.at.returns c).After-word_of) (omega arith) (omega arith) (omega arith)
+returns c = count_is _ _ _ (count (goal.at.returns c).After-word_of-n) (omega arith) _ (field (goal.at.returns c).After-word_of) (omega arith) (omega arith) (omega arith)

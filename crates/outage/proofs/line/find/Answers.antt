@@ -14,7 +14,7 @@ returns-then-text-at-clause-value c = let l = c.loop-at in
     omega (arith, before_here a.byte a.text.now l.at (omega arith) (omega arith))
 
 pub loop-at-preserved : goal.loop-at-preserved
-loop-at-preserved c =     let l = c.loop-at in
+loop-at-preserved c = let l = c.loop-at in
     let a = c.args in
     (rw (add-one l.at) (omega (arith, before_more a.byte a.text.now l.at (omega arith) (λ e. omega (arith, e)))), omega arith)
 

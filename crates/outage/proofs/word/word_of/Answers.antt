@@ -8,7 +8,7 @@ use lib.Seq.{get_or-take}
 use Rattle.outage_spec.specs.Words.{of_bytes}
 use Rattle.outage_spec.proofs.WordLaws.{all_bytes, all_take}
 use Rattle.outage_spec.proofs.PartLaws.{part_none, part_more, part_small}
-use Rattle.outage.proofs.word.word_of.Goals.{After-shared_slice_known-1}
+use Rattle.outage.proofs.word.word_of.Goals.{then-bytes-left, else-bytes-left, After-shared_slice_known-1}
 use Rattle.outage.proofs.word.word_of.Goals as goal
 
 -- with the byte that is read it still fits
@@ -20,9 +20,9 @@ small c =
     omega arith
 
 pub loop-left-init : goal.loop-left-init
-loop-left-init c =     let s = c.args.bytes.now in
+loop-left-init c = let s = c.args.bytes.now in
     let n = length-take 8 s in
-    let e : c.if-bytes-left.left ≡ length (take 8 s) = ⊎_elim (λ w. omega (arith, w.0.taken, w.1)) (λ w. omega (arith, w.0.left, w.1)) c.if-bytes-left.branch in
+    let e : c.if-bytes-left.left ≡ length (take 8 s) = elim c.if-bytes-left.branch [ then-bytes-left w ↦ omega (arith, n) | else-bytes-left w ↦ omega (arith, n) ] in
     (part_none (take 8 s) c.if-bytes-left.left (omega arith), omega arith)
 
 pub overflow_mul-word : goal.overflow_mul-word
@@ -32,7 +32,7 @@ pub overflow_add-word : goal.overflow_add-word
 overflow_add-word c = omega (arith, small (goal.at.overflow_add-word c).After-shared_slice_known-1, c.shared_slice_known-1.given (c.loop-left.left - 1))
 
 pub loop-left-preserved : goal.loop-left-preserved
-loop-left-preserved c =     let l = c.loop-left in
+loop-left-preserved c = let l = c.loop-left in
     let s = c.args.bytes.now in
     let b = get_or-take 8 s (l.left - 1) 0 (omega (arith, length-take 8 s)) in
     (omega (arith, part_more (take 8 s) l.left (omega arith) (omega arith)), omega arith)
