@@ -1,11 +1,9 @@
 -- `lexical_buffer::bytes::copy` meets its contract. The loop's invariant: the first bytes have been put. Assumes nothing.
-use Prim.Native.Nat.{◌-◌, ◌≤◌}
-use mathlib.Core.Path.{◌≡◌, refl, sym, ◌∙◌}
+use mathlib.Core.Path.{refl, sym}
 use native.Mathlib.Numerals.{add-one}
 use native.Mathlib.Omega.{arith}
-use lib.ListN.{length, take, length-set}
-use lib.Seq.{take-suc, take-length, length-take-le}
-use Rattle.lexical_buffer.specs.Put.{put}
+use lib.ListN.{take, length-set}
+use lib.Seq.{take-suc, length-take-le}
 use Rattle.lexical_buffer.proofs.PutLaws.{put_nil, put_next}
 use Rattle.lexical_buffer.proofs.bytes.copy.Goals as goal
 

@@ -1,12 +1,8 @@
 -- `lexical_buffer::bytes::copy` meets its contract. The loop's invariant: the first bytes have been put. Assumes nothing.
 use Prim.Native.Nat.{◌-◌, ◌≤◌}
-use mathlib.Core.Path.{◌≡◌, refl, sym, ◌∙◌}
-use native.Mathlib.Numerals.{add-one}
-use native.Mathlib.Omega.{arith}
-use lib.ListN.{length, take, length-set}
-use lib.Seq.{take-suc, take-length, length-take-le}
+use mathlib.Core.Path.{◌≡◌}
+use lib.ListN.{length, take}
 use Rattle.lexical_buffer.specs.Put.{put}
-use Rattle.lexical_buffer.proofs.PutLaws.{put_nil, put_next}
 use Rattle.lexical_buffer.proofs.bytes.copy.Given as goal
 
 abbrev pub invariant-loop-i : goal.invariant-loop-i

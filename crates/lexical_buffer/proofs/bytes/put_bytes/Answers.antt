@@ -1,11 +1,9 @@
 -- `lexical_buffer::bytes::put_bytes` meets its contract: copied where there is room. Assumes nothing.
 use Prim.Native.Nat.{◌+◌, ◌≤◌}
 use mathlib.Core.Path.{refl, sym, ◌∙◌}
-use native.Mathlib.Omega.{arith}
-use borrow.Author.Rules.{rules}
-use borrow.Author.Tests.{leb-true, leb-false}
+use borrow.Author.Tests.{leb-true}
 use lib.ListN.{length}
-use Rattle.lexical_buffer.proofs.PutLaws.{put_place, put_held, short_put}
+use Rattle.lexical_buffer.proofs.PutLaws.{put_held}
 use Rattle.lexical_buffer.proofs.bytes.put_bytes.Goals.{Then-lies_within}
 use Rattle.lexical_buffer.proofs.bytes.put_bytes.Goals as goal
 

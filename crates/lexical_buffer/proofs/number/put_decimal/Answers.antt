@@ -3,7 +3,6 @@ use mathlib.Core.Path.{◌≡◌, sym, ap, ◌∙◌}
 use mathlib.Core.List.{List, [], ◌∷◌}
 use Prim.Native.Nat.{ℕ}
 use native.Mathlib.Omega.{arith}
-use borrow.Author.Rules.{rules}
 use Rattle.lexical_util.specs.Answer.{done}
 use Rattle.lexical_write_integer_spec.specs.Write.{digits_text}
 use Rattle.lexical_buffer.proofs.FewDigits.{one_numeral, decimal_asked}

@@ -3,9 +3,8 @@ use Prim.Native.Nat.{ℕ, ◌+◌, ◌≤◌}
 use mathlib.Core.Path.{◌≡◌, refl, sym, ap, ◌∙◌}
 use mathlib.Core.List.{List, [], ◌∷◌, ◌++◌}
 use native.Mathlib.Omega.{arith}
-use borrow.Author.Rules.{rules}
 use borrow.Author.Tests.{leb-true, leb-false}
-use lib.ListN.{length, length-set}
+use lib.ListN.{length}
 use Rattle.lexical_util.specs.Answer.{done}
 use Rattle.lexical_write_integer_spec.specs.Write.{digits_text}
 use Rattle.lexical_buffer.proofs.FewDigits.{two_numeral, decimal_asked}

@@ -2,7 +2,6 @@
 use Prim.Native.Nat.{ℕ}
 use mathlib.Core.Path.{◌≡◌, refl, sym, ap, ◌∙◌}
 use mathlib.Core.List.{List, [], ◌∷◌}
-use borrow.Author.Rules.{rules}
 use Rattle.lexical_util.specs.Answer.{done}
 use Rattle.lexical_util.specs.Digit.{is_width}
 use Rattle.lexical_util.proofs.RadixLaws.{radix_bounds}

@@ -1,6 +1,5 @@
 -- `lexical_read_float::bits::text_bits` meets its contract: the scan finds the shape that the definition finds, or its place of refusal 9. Assumes nothing.
 use mathlib.Core.Path.{◌∙◌, subst}
-use borrow.Author.Rules.{rules}
 use Rattle.lexical_float.specs.Encoding.{of_width}
 use Rattle.lexical_read_float.specs.Scan.{IsBounded}
 use Rattle.lexical_read_float.proofs.TextLaws.{Small, small, IsNumberOf, text_long, text_wrong, text_found}

@@ -52,7 +52,7 @@ pub powers_of-powers-requires : goal.powers_of-powers-requires
 powers_of-powers-requires c = (places_few (goal.at.powers_of-powers-requires c).After-powers_in_bits, (power_few (goal.at.powers_of-powers-requires c).After-powers_in_bits).1)
 
 pub round_kept-rounded-requires : goal.round_kept-rounded-requires
-round_kept-rounded-requires c =     (c.requires.1, c.requires.0.few_below, omega (arith, up_few (goal.at.round_kept-rounded-requires c).After-powers_of-powers), omega (arith, down_is (goal.at.round_kept-rounded-requires c).After-powers_of-powers, places_few (goal.at.round_kept-rounded-requires c).After-powers_in_bits, (power_few (goal.at.round_kept-rounded-requires c).After-powers_in_bits).1))
+round_kept-rounded-requires c = (c.requires.1, c.requires.0.few_below, omega (arith, up_few (goal.at.round_kept-rounded-requires c).After-powers_of-powers), omega (arith, down_is (goal.at.round_kept-rounded-requires c).After-powers_of-powers, places_few (goal.at.round_kept-rounded-requires c).After-powers_in_bits, (power_few (goal.at.round_kept-rounded-requires c).After-powers_in_bits).1))
 
 pub returns-clause-by_index : goal.returns-clause-by_index
 returns-clause-by_index c = let a = c.args in

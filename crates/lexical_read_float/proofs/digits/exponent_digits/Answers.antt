@@ -1,12 +1,10 @@
 -- `lexical_read_float::digits::exponent_digits` meets its contract: at each place the digits still to come, added to the sum so far, make the whole, cut off at 32,768. Assumes nothing.
-use Prim.Native.Nat.{◌+◌, ◌-◌, ◌*◌, ◌≤◌, min}
+use Prim.Native.Nat.{◌+◌, ◌≤◌, min}
 use mathlib.Core.List.{[], ◌∷◌}
-use mathlib.Core.Path.{◌≡◌, refl}
-use native.Mathlib.Nat.{mul-le-mul}
+use mathlib.Core.Path.{◌≡◌}
 use native.Mathlib.Omega.{arith}
-use borrow.Author.Rules.{rules}
 use lib.ListN.{length}
-use Rattle.lexical_util.specs.Digit.{read_on, digits_value}
+use Rattle.lexical_util.specs.Digit.{digits_value}
 use Rattle.lexical_read_float.proofs.DigitRunLaws.{digit_below, digit_above, from_more, from_stop, from_end, end_here, end_on, sum_done, sum_on}
 use Rattle.lexical_read_float.specs.Digits.{digits_from, end_from}
 use Rattle.lexical_read_float.specs.Scan.{too_great}
@@ -24,7 +22,7 @@ pub returns-then-digit-radix : goal.returns-then-digit-radix
 returns-then-digit-radix c = stopped (goal.at.returns-then-digit-radix c).At-loop-i (from_stop _ _ _ c.loop-i-test.true (digit_above _ _ _ c.requires.2 c.digit_or_none-digit.ensures c.if-digit-radix.true))
 
 pub loop-i-preserved : goal.loop-i-preserved
-loop-i-preserved c =     let a = c.args in
+loop-i-preserved c = let a = c.args in
     let more : digits_from a.radix a.text.now c.loop-i.i ≡ c.digit_or_none-digit.result ∷ digits_from a.radix a.text.now (c.loop-i.i + 1) =
     from_more _ _ c.loop-i.i _ c.loop-i-test.true (digit_below _ _ _ c.requires.2 c.digit_or_none-digit.ensures c.if-digit-radix.false) in
     (omega arith, omega (arith, c.saturated-magnitude.ensures), end_on _ _ _ _ c.loop-i.invariant.2 _ more, sum_on _ _ _ _ c.loop-i.invariant.3 _ _ _ c.requires.1 more c.saturated-magnitude.ensures)

@@ -1,13 +1,8 @@
 -- `lexical_read_float::digits::exponent_digits` meets its contract: at each place the digits still to come, added to the sum so far, make the whole, cut off at 32,768. Assumes nothing.
-use Prim.Native.Nat.{◌+◌, ◌-◌, ◌*◌, ◌≤◌, min}
-use mathlib.Core.List.{[], ◌∷◌}
-use mathlib.Core.Path.{◌≡◌, refl}
-use native.Mathlib.Nat.{mul-le-mul}
-use native.Mathlib.Omega.{arith}
-use borrow.Author.Rules.{rules}
+use Prim.Native.Nat.{◌-◌, ◌≤◌, min}
+use mathlib.Core.Path.{◌≡◌}
 use lib.ListN.{length}
 use Rattle.lexical_util.specs.Digit.{read_on, digits_value}
-use Rattle.lexical_read_float.proofs.DigitRunLaws.{digit_below, digit_above, from_more, from_stop, from_end, end_here, end_on, sum_done, sum_on}
 use Rattle.lexical_read_float.specs.Digits.{digits_from, end_from}
 use Rattle.lexical_read_float.specs.Scan.{too_great}
 use Rattle.lexical_read_float.proofs.digits.exponent_digits.Given as goal

@@ -1,10 +1,8 @@
 -- `lexical_read_float::digits::further_digits` meets its contract: at each place the digits so far are 0 and those still to come, or not all are. Assumes nothing.
-use Prim.Native.Nat.{◌+◌, ◌-◌, ◌≤◌}
+use Prim.Native.Nat.{◌+◌, ◌≤◌}
 use mathlib.Core.List.{[], ◌∷◌}
-use mathlib.Core.Bool.{◌&&◌}
-use mathlib.Core.Path.{◌≡◌, refl}
+use mathlib.Core.Path.{◌≡◌}
 use native.Mathlib.Omega.{arith}
-use borrow.Author.Rules.{rules}
 use lib.Dec.{eqb}
 use lib.ListN.{length}
 use Rattle.lexical_read_float.proofs.DigitRunLaws.{digit_below, digit_above, from_more, from_stop, from_end, end_here, end_on, zeros_done, zeros_on}
@@ -22,7 +20,7 @@ pub returns-then-digit-radix : goal.returns-then-digit-radix
 returns-then-digit-radix c = stopped (goal.at.returns-then-digit-radix c).At-loop-i (from_stop _ _ _ c.loop-i-test.true (digit_above _ _ _ c.requires.1 c.digit_or_none-digit.ensures c.if-digit-radix.true))
 
 pub loop-i-preserved : goal.loop-i-preserved
-loop-i-preserved c =     let a = c.args in
+loop-i-preserved c = let a = c.args in
     let more : digits_from a.radix a.text.now c.loop-i.i ≡ c.digit_or_none-digit.result ∷ digits_from a.radix a.text.now (c.loop-i.i + 1) =
     from_more _ _ c.loop-i.i _ c.loop-i-test.true (digit_below _ _ _ c.requires.1 c.digit_or_none-digit.ensures c.if-digit-radix.false) in
     (omega arith, end_on _ _ _ _ c.loop-i.invariant.1 _ more, zeros_on c.loop-i.seen _ _ _ _ c.loop-i.invariant.2 more)

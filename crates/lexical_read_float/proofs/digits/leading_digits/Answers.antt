@@ -1,15 +1,11 @@
 -- `lexical_read_float::digits::leading_digits` meets its contract: at each place the digits still to come make the same of the bits so far as all make of those at the start. Assumes nothing.
-use Prim.Native.Nat.{ℕ, ◌+◌, ◌-◌, ◌≤◌, ◌<◌}
+use Prim.Native.Nat.{ℕ, ◌+◌, ◌<◌}
 use mathlib.Core.List.{[], ◌∷◌}
-use mathlib.Core.Path.{◌≡◌, refl, ap, ◌∙◌}
-use mathlib.Core.Bool.{Bool}
+use mathlib.Core.Path.{◌≡◌, ap, ◌∙◌}
 use native.Mathlib.Omega.{arith}
-use native.Mathlib.Nat.{not-le_of_lt}
-use borrow.Author.Rules.{rules}
-use lib.ListN.{length}
 use Rattle.lexical_read_float.proofs.DigitRunLaws.{digit_below, digit_above, from_more, from_stop, from_end, end_on}
-use Rattle.lexical_read_float.specs.Digits.{digits_from, end_from, FilledBits}
-use Rattle.lexical_read_float.specs.Kept.{full, keep_digits}
+use Rattle.lexical_read_float.specs.Digits.{digits_from, FilledBits}
+use Rattle.lexical_read_float.specs.Kept.{full}
 use Rattle.lexical_read_float.proofs.KeepLaws.{shift_small, shift_is, kept_on}
 use Rattle.lexical_read_float.proofs.digits.leading_digits.Goals.{At-loop-i}
 use Rattle.lexical_read_float.proofs.digits.leading_digits.Goals as goal
@@ -26,7 +22,7 @@ pub overflow_add-bits : goal.overflow_add-bits
 overflow_add-bits c = omega (arith, shift_is c.loop-i.bits c.args.b c.if-bits-ge288230376151711744.false c.requires.2, shift_small c.loop-i.bits c.args.b c.if-bits-ge288230376151711744.false c.requires.2)
 
 pub loop-i-preserved : goal.loop-i-preserved
-loop-i-preserved c =     let a = c.args in
+loop-i-preserved c = let a = c.args in
     let more : digits_from a.radix a.text.now c.loop-i.i ≡ c.digit_or_none-digit.result ∷ digits_from a.radix a.text.now (c.loop-i.i + 1) =
     from_more _ _ c.loop-i.i _ c.loop-i-test.true (digit_below _ _ _ c.requires.1 c.digit_or_none-digit.ensures c.if-digit-radix.false) in (
       omega arith,

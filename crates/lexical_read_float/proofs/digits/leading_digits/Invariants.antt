@@ -1,16 +1,10 @@
 -- `lexical_read_float::digits::leading_digits` meets its contract: at each place the digits still to come make the same of the bits so far as all make of those at the start. Assumes nothing.
-use Prim.Native.Nat.{ℕ, ◌+◌, ◌-◌, ◌≤◌, ◌<◌}
-use mathlib.Core.List.{[], ◌∷◌}
-use mathlib.Core.Path.{◌≡◌, refl, ap, ◌∙◌}
+use Prim.Native.Nat.{ℕ, ◌-◌, ◌≤◌}
+use mathlib.Core.Path.{◌≡◌}
 use mathlib.Core.Bool.{Bool}
-use native.Mathlib.Omega.{arith}
-use native.Mathlib.Nat.{not-le_of_lt}
-use borrow.Author.Rules.{rules}
 use lib.ListN.{length}
-use Rattle.lexical_read_float.proofs.DigitRunLaws.{digit_below, digit_above, from_more, from_stop, from_end, end_on}
-use Rattle.lexical_read_float.specs.Digits.{digits_from, end_from, FilledBits}
-use Rattle.lexical_read_float.specs.Kept.{full, keep_digits}
-use Rattle.lexical_read_float.proofs.KeepLaws.{shift_small, shift_is, kept_on}
+use Rattle.lexical_read_float.specs.Digits.{digits_from, end_from}
+use Rattle.lexical_read_float.specs.Kept.{keep_digits}
 use Rattle.lexical_read_float.proofs.digits.leading_digits.Given as goal
 
 abbrev pub invariant-loop-i : goal.invariant-loop-i

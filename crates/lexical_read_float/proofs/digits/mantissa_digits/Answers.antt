@@ -2,7 +2,6 @@
 use Prim.Native.Nat.{◌+◌, ◌-◌, ◌*◌, ◌≤◌}
 use mathlib.Core.Path.{◌≡◌, ap, ◌∙◌}
 use native.Mathlib.Omega.{arith}
-use borrow.Author.Rules.{rules}
 use lib.IntN.{ℤ, pos}
 use mir.Syntax.{w32}
 use mir.Facts.{to_z_pos}
@@ -29,12 +28,12 @@ lower_is c =
     ∙ rw (to_z_pos w32 {n = n} (omega (arith, few'))) (digits_height _ n (omega (arith, few')))
 
 pub returns-then-bits-lt288230376151711744 : goal.returns-then-bits-lt288230376151711744
-returns-then-bits-lt288230376151711744 c =     let filled = c.leading_digits-leading.ensures in
+returns-then-bits-lt288230376151711744 c = let filled = c.leading_digits-leading.ensures in
     let f = filled.forth in
     (ended _ _ _ _ c.args.start _ _ filled c.if-bits-lt288230376151711744.true, all_kept _ _ _ _ c.args.start _ _ filled c.if-bits-lt288230376151711744.true, omega arith, filled.within)
 
 pub returns : goal.returns
-returns c =     let a = c.args in
+returns c = let a = c.args in
     let filled = c.leading_digits-leading.ensures in
     rw (lower_is (goal.at.returns c).After-height_above)
     (stops _ _ _ _ a.start _ _ filled _ c.further_digits-further.ensures.0, joined _ _ _ _ a.start _ _ filled _ c.further_digits-further.ensures.0 _ _ c.both.ensures c.further_digits-further.ensures.1, few (goal.at.returns c).After-further_digits-further, c.further_digits-further.ensures.2)

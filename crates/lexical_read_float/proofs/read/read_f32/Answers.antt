@@ -2,12 +2,10 @@
 use Prim.Native.Nat.{◌*◌, ◌%◌, ◌<◌}
 use mathlib.Core.Path.{subst}
 use native.Mathlib.Nat.{le_of_lt}
-use native.Mathlib.Omega.{arith}
-use borrow.Author.Rules.{rules}
 use lib.Ieee.{binary32, top}
 use Rattle.lexical_float.proofs.PartsLaws.{tested_bits}
 use Rattle.lexical_read_float.specs.Pattern.{infinity}
-use Rattle.lexical_read_float.proofs.TextLaws.{passed, said, said_refused}
+use Rattle.lexical_read_float.proofs.TextLaws.{said, said_refused}
 use Rattle.lexical_read_float.specs.Bits.{AreFinite}
 use Rattle.lexical_read_float.proofs.read.read_f32.Goals.{In-Bits}
 use Rattle.lexical_read_float.proofs.read.read_f32.Goals as goal

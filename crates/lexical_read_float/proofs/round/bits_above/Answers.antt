@@ -1,5 +1,4 @@
 -- `lexical_read_float::round::bits_above` meets its contract: no bit of a word stands above its 64. Assumes nothing.
-use borrow.Author.Rules.{rules}
 use Rattle.lexical_read_float.proofs.RoundLaws.{above_none}
 use Rattle.lexical_read_float.proofs.round.bits_above.Goals as goal
 

@@ -1,5 +1,4 @@
 -- `lexical_read_float::round::is_clear` meets its contract: shifted down and back, the bits are as they were exactly where the lowest are clear. Assumes nothing.
-use borrow.Author.Rules.{rules}
 use Rattle.lexical_read_float.proofs.RoundLaws.{clear_none, clear_some, clear_no}
 use Rattle.lexical_read_float.proofs.round.is_clear.Goals as goal
 

@@ -1,9 +1,7 @@
 -- `lexical_read_float::round::lift_of` meets its contract. Assumes nothing.
-use native.Mathlib.Omega.{arith}
-use borrow.Author.Rules.{rules}
 use lib.Ieee.{Format}
 use Rattle.lexical_float.specs.Encoding.{of_width}
-use Rattle.lexical_read_float.proofs.RoundLaws.{lift_some, lift_none, size_small, low_small}
+use Rattle.lexical_read_float.proofs.RoundLaws.{lift_some, lift_none}
 use Rattle.lexical_read_float.proofs.round.lift_of.Goals.{Start}
 use Rattle.lexical_read_float.proofs.round.lift_of.Goals as goal
 

@@ -1,8 +1,6 @@
 -- `lexical_read_float::round::round_bits` meets its contract. Assumes nothing.
 use native.Mathlib.Omega.{arith}
-use borrow.Author.Rules.{rules}
 use lib.Ieee.{Format}
-use Prim.Native.Nat.{◌*◌, ◌≤◌}
 use Rattle.lexical_float.specs.Encoding.{of_width}
 use Rattle.lexical_read_float.proofs.RoundLaws as L
 use Rattle.lexical_read_float.proofs.round.round_bits.Goals.{Start}

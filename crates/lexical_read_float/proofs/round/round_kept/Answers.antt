@@ -2,7 +2,6 @@
 use Prim.Native.Nat.{ℕ, ◌-◌, ◌*◌, ◌%◌, ◌^◌, ◌≤◌, ◌<◌}
 use mathlib.Core.Path.{◌≡◌}
 use native.Mathlib.Omega.{arith}
-use borrow.Author.Rules.{rules}
 use Rattle.lexical_read_float.specs.Kept.{full}
 use Rattle.lexical_read_float.proofs.RoundLaws as L
 use Rattle.lexical_read_float.proofs.round.round_kept.Goals.{After-significant_bits-shift}

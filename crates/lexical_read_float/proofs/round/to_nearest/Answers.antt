@@ -1,5 +1,4 @@
 -- `lexical_read_float::round::to_nearest` meets its contract, case by case. Assumes nothing.
-use native.Mathlib.Omega.{arith}
 use Rattle.lexical_read_float.proofs.RoundLaws.{nearest_down, nearest_even, nearest_up}
 use Rattle.lexical_read_float.proofs.round.to_nearest.Goals as goal
 

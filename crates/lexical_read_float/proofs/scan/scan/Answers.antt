@@ -1,12 +1,8 @@
 -- `lexical_read_float::scan::scan` meets its contract: no digit in front, or a mantissa and what stands behind it. Assumes nothing.
-use Prim.Native.Nat.{◌≤◌}
 use mathlib.Core.Path.{◌∙◌}
-use native.Mathlib.Omega.{arith}
-use borrow.Author.Rules.{rules}
-use lib.ListN.{length}
 use Rattle.lexical_read_float_spec.specs.Shape.{Grammar}
 use Rattle.lexical_read_float.specs.Scan.{grammar}
-use Rattle.lexical_read_float.proofs.ScanLaws.{sign_inside, text_empty, text_mantissa, number_bounded}
+use Rattle.lexical_read_float.proofs.ScanLaws.{text_empty, text_mantissa}
 use Rattle.lexical_read_float.proofs.scan.scan.Goals.{Start}
 use Rattle.lexical_read_float.proofs.scan.scan.Goals as goal
 

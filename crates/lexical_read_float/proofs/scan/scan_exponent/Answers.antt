@@ -2,7 +2,6 @@
 use Prim.Native.Nat.{◌+◌}
 use mathlib.Core.Path.{refl, sym, ap, ◌∙◌}
 use native.Mathlib.Omega.{arith}
-use borrow.Author.Rules.{rules}
 use Rattle.lexical_read_float_spec.specs.Shape.{unsigned, plus, minus}
 use Rattle.lexical_read_float.specs.Scan.{scanned_tail}
 use Rattle.lexical_read_float.proofs.ScanLaws.{sign_missing, sign_plus, sign_minus, sign_none}

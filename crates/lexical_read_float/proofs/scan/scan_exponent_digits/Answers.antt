@@ -1,7 +1,6 @@
 -- `lexical_read_float::scan::scan_exponent_digits` meets its contract: no digit, a byte behind the digits, or nothing behind them. Assumes nothing.
 use mathlib.Core.Path.{sym, ◌∙◌}
 use native.Mathlib.Omega.{arith}
-use borrow.Author.Rules.{rules}
 use Rattle.lexical_read_float.proofs.ScanLaws.{digits_none, digits_more, digits_all}
 use Rattle.lexical_read_float.proofs.scan.scan_exponent_digits.Goals as goal
 

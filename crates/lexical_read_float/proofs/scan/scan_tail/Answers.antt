@@ -1,7 +1,6 @@
 -- `lexical_read_float::scan::scan_tail` meets its contract: nothing, no mark, or a mark. Assumes nothing.
 use mathlib.Core.Path.{sym, ap, ◌∙◌}
 use native.Mathlib.Omega.{arith}
-use borrow.Author.Rules.{rules}
 use Rattle.lexical_read_float.proofs.ScanLaws.{tail_absent, tail_wrong, tail_marked}
 use Rattle.lexical_read_float.specs.Scan.{grammar, scanned_tail}
 use Rattle.lexical_read_float.proofs.scan.scan_tail.Goals as goal

@@ -18,7 +18,7 @@ pub returns-then-mantissa-eq0 : goal.returns-then-mantissa-eq0
 returns-then-mantissa-eq0 c = normal_zero c.args.value.mantissa _ c.if-mantissa-eq0.true
 
 pub returns : goal.returns
-returns c =     let v = c.args.value in
+returns c = let v = c.args.value in
     let t = count_trailing_zeros 64 v.mantissa in
     ap (λ (e : ℤ). record { m = v.mantissa / 2 ^ t; e = e }) (c.raised.ensures ∙ raised_is v.exponent.0 t c.requires (omega (arith, few (goal.at.returns c).Else-mantissa-eq0)))
     ∙ normal_trailing 64 v.mantissa (pos_of_ne-zero c.if-mantissa-eq0.false) (search rules) v.exponent.0

@@ -3,7 +3,6 @@ use Prim.Native.Nat.{ℕ, ◌+◌, ◌-◌, ◌*◌, ◌≤◌, ◌<◌}
 use mathlib.Core.Path.{◌≡◌, sym, ap, ap₂, ◌∙◌}
 use native.Mathlib.Nat.{pos_of_ne-zero}
 use native.Mathlib.Omega.{arith}
-use borrow.Author.Rules.{rules}
 use lib.IntN.{ℤ, pos, ◌+ℤ◌}
 use lib.Ieee.{size}
 use lib.Ieee.Digits.{size-le}
@@ -12,7 +11,7 @@ use Rattle.lexical_exponent.proofs.PowerLaws.{size_pos}
 use Rattle.lexical_write_float_spec.specs.Value.{normal}
 use Rattle.lexical_write_float_spec.specs.Range.{Between}
 use Rattle.lexical_write_float_spec.proofs.Integers.{between_wider}
-use Rattle.lexical_write_float.proofs.StoredLaws.{raised_is, scale_held, raised_near}
+use Rattle.lexical_write_float.proofs.StoredLaws.{raised_is, scale_held}
 use Rattle.lexical_write_float_spec.proofs.LimitLaws.{limited_none, limited_zero, kept, limited_kept, limited_cut}
 use Rattle.lexical_write_float.proofs.binary.truncate_and_round.Goals.{After-kept_bits-keep, After-raised, After-significant_bits-below, Start}
 use Rattle.lexical_write_float.proofs.binary.truncate_and_round.Goals as goal
@@ -57,7 +56,7 @@ pub returns-then-mantissa-eq0 : goal.returns-then-mantissa-eq0
 returns-then-mantissa-eq0 c = let a = c.args in limited_zero a.mode a.bits_per_digit a.digits a.value.mantissa a.value.exponent.0 c.if-mantissa-eq0.true
 
 pub returns-then-below-keep : goal.returns-then-below-keep
-returns-then-below-keep c =     let a = c.args in
+returns-then-below-keep c = let a = c.args in
     c.normalized.ensures
     ∙ sym (limited_kept a.mode a.bits_per_digit a.digits a.value.mantissa a.value.exponent.0 (omega arith) (omega arith) (some (goal.at.returns-then-below-keep c).After-kept_bits-keep) c.kept_bits-keep.result (keep_is (goal.at.returns-then-below-keep c).After-kept_bits-keep) (omega (arith, bits (goal.at.returns-then-below-keep c).After-significant_bits-below)))
 
@@ -65,7 +64,7 @@ pub round_to_units-units-requires : goal.round_to_units-units-requires
 round_to_units-units-requires c = (omega arith, omega (arith, bits (goal.at.round_to_units-units-requires c).After-significant_bits-below))
 
 pub returns : goal.returns
-returns c =     let a = c.args in
+returns c = let a = c.args in
     c.normalized-2.ensures
     ∙ ap₂ normal c.round_to_units-units.ensures (higher (goal.at.returns c).After-raised)
     ∙ sym (limited_cut a.mode a.bits_per_digit a.digits a.value.mantissa a.value.exponent.0 (omega arith) (omega arith) (some (goal.at.returns c).After-kept_bits-keep) c.kept_bits-keep.result (keep_is (goal.at.returns c).After-kept_bits-keep) (cut (goal.at.returns c).After-significant_bits-below) (omega (arith, bits (goal.at.returns c).After-significant_bits-below)) (omega arith))

@@ -1,7 +1,6 @@
 -- `lexical_write_float::binary::write_float_positive_exponent` meets its contract: one law for each of its plans. Assumes nothing.
 use native.Mathlib.Omega.{arith}
 use Rattle.lexical_write_float.proofs.PlanLaws as laws
-use borrow.Author.Rules.{rules}
 use Rattle.lexical_write_float.proofs.binary.write_float_positive_exponent.Goals as goal
 
 pub returns-then-places-count : goal.returns-then-places-count

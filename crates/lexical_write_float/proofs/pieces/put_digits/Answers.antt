@@ -1,14 +1,12 @@
 -- `lexical_write_float::pieces::put_digits` meets its contract: the digits have room, so they are written. Assumes nothing.
 use Prim.Native.Nat.{◌+◌, ◌^◌, ◌≤◌}
-use mathlib.Core.Path.{◌≡◌, sym, ap, ◌∙◌}
-use native.Mathlib.Omega.{arith}
-use Rattle.lexical_util.specs.Answer.{done, of_written}
+use mathlib.Core.Path.{◌≡◌}
+use Rattle.lexical_util.specs.Answer.{done}
 use lib.ListN.{length}
 use Rattle.lexical_write_integer_spec.specs.Write.{last_numeral, mantissa_text}
 use Rattle.lexical_write_integer_spec.proofs.LastLaws.{length_last}
 use Rattle.lexical_write_integer_spec.proofs.MantissaAnswer.{asked}
-use Rattle.lexical_buffer.proofs.PutLaws.{part_count, part_puts, part_refused}
-use borrow.Author.Rules.{rules}
+use Rattle.lexical_buffer.proofs.PutLaws.{part_puts, part_refused}
 use Rattle.lexical_write_float.proofs.pieces.put_digits.Goals.{Start}
 use Rattle.lexical_write_float.proofs.pieces.put_digits.Goals as goal
 
@@ -19,7 +17,7 @@ room : (c : Start) → c.args.at + length (last_numeral (2 ^ c.args.bits_per_dig
 room c = rw (length_last (2 ^ c.args.bits_per_digit) c.args.count c.args.value) c.requires.2
 
 pub returns-in-Length : goal.returns-in-Length
-returns-in-Length c =     part_puts _ _ c.args.buffer.now c.args.at (wanted (goal.at.returns-in-Length c).Start) (room (goal.at.returns-in-Length c).Start) _ _ (c.in-Length.ensures.result_value) c.write_mantissa-written.ensures.buffer_after
+returns-in-Length c = part_puts _ _ c.args.buffer.now c.args.at (wanted (goal.at.returns-in-Length c).Start) (room (goal.at.returns-in-Length c).Start) _ _ (c.in-Length.ensures.result_value) c.write_mantissa-written.ensures.buffer_after
 
 pub returns-in-Refused : goal.returns-in-Refused
-returns-in-Refused c =     absurd (part_refused _ _ c.args.buffer.now c.args.at (wanted (goal.at.returns-in-Refused c).Start) (room (goal.at.returns-in-Refused c).Start) _ _ (c.in-Refused.ensures.result_value))
+returns-in-Refused c = absurd (part_refused _ _ c.args.buffer.now c.args.at (wanted (goal.at.returns-in-Refused c).Start) (room (goal.at.returns-in-Refused c).Start) _ _ (c.in-Refused.ensures.result_value))

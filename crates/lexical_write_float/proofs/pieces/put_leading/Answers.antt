@@ -3,7 +3,6 @@ use Prim.Native.Nat.{◌+◌, ◌-◌, ◌*◌, ◌%◌, ◌^◌}
 use mathlib.Core.Path.{◌≡◌}
 use mathlib.Core.List.{[], ◌∷◌}
 use native.Mathlib.Omega.{arith}
-use borrow.Author.Rules.{rules}
 use lib.Pow.{pow_pos}
 use Rattle.lexical_write_integer_spec.specs.Write.{last_numeral}
 use Rattle.lexical_write_integer.proofs.FillLaws.{shifted}
@@ -21,4 +20,4 @@ is c =
     one_last b c.args.value _ c.args.count c.digit_byte-byte.result c.requires.1 (let m : (1 * 2 ^ b) % 2 ^ 64 - 1 + 1 ≡ 2 ^ b = omega arith in m) c.if-count-eq1.true c.digit_byte-byte.ensures
 
 pub returns-then-count-eq1 : goal.returns-then-count-eq1
-returns-then-count-eq1 c =     rw (is (goal.at.returns-then-count-eq1 c).After-digit_byte-byte) at (text_puts c.args.buffer.now c.args.at (_ ∷ []) _ _ (omega (arith, c.requires.2, c.if-count-eq1.true)) (c.put_byte.ensures.value, c.put_byte.ensures.buffer_after))
+returns-then-count-eq1 c = rw (is (goal.at.returns-then-count-eq1 c).After-digit_byte-byte) at (text_puts c.args.buffer.now c.args.at (_ ∷ []) _ _ (omega (arith, c.requires.2, c.if-count-eq1.true)) (c.put_byte.ensures.value, c.put_byte.ensures.buffer_after))

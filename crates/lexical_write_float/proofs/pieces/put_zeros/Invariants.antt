@@ -1,11 +1,9 @@
 -- `lexical_write_float::pieces::put_zeros` meets its contract: a turn of the loop puts one zero more. Assumes nothing.
-use Prim.Native.Nat.{ℕ, ◌-◌, ◌≤◌}
-use mathlib.Core.Path.{◌≡◌, refl, sym}
-use native.Mathlib.Omega.{arith}
-use lib.ListN.{length, length-set, length-replicate, replicate-append-replicate}
+use Prim.Native.Nat.{◌-◌, ◌≤◌}
+use mathlib.Core.Path.{◌≡◌}
+use lib.ListN.{length}
 use Rattle.lexical_buffer.specs.Put.{put}
 use Rattle.lexical_write_float_spec.specs.Text.{zeros}
-use Rattle.lexical_buffer.proofs.PutLaws.{put_nil, put_next}
 use Rattle.lexical_write_float.proofs.pieces.put_zeros.Given as goal
 
 abbrev pub invariant-loop-done : goal.invariant-loop-done

@@ -9,7 +9,6 @@ use Rattle.lexical_buffer.proofs.PutLaws.{puts_none, puts_more, text_puts}
 use Rattle.lexical_write_float.proofs.PlanLaws.{fraction_length}
 use Rattle.lexical_write_integer_spec.proofs.LastLaws.{length_last}
 use Rattle.lexical_write_integer_spec.proofs.SplitLaws.{back}
-use borrow.Author.Rules.{rules}
 use Rattle.lexical_write_float.proofs.plan.put_fraction.Goals.{After-put_byte-gap, Then-plan}
 use Rattle.lexical_write_float.proofs.plan.put_fraction.Goals as goal
 
@@ -26,15 +25,15 @@ pub put_zeros-rest-requires : goal.put_zeros-rest-requires
 put_zeros-rest-requires c = omega (arith, room (goal.at.put_zeros-rest-requires c).Then-plan, (point_put (goal.at.put_zeros-rest-requires c).After-put_byte-gap).next_is)
 
 pub put_digits-padding-requires : goal.put_digits-padding-requires
-put_digits-padding-requires c =     (c.requires.0.some_bits, c.requires.0.few_bits, omega (arith, room (goal.at.put_digits-padding-requires c).Then-plan, (point_put (goal.at.put_digits-padding-requires c).After-put_byte-gap).next_is, c.put_zeros-rest.ensures.next_is, length-replicate {A = ℕ} c.args.plan.gap 48))
+put_digits-padding-requires c = (c.requires.0.some_bits, c.requires.0.few_bits, omega (arith, room (goal.at.put_digits-padding-requires c).Then-plan, (point_put (goal.at.put_digits-padding-requires c).After-put_byte-gap).next_is, c.put_zeros-rest.ensures.next_is, length-replicate {A = ℕ} c.args.plan.gap 48))
 
 pub put_zeros-requires : goal.put_zeros-requires
-put_zeros-requires c =     let a = c.args in
+put_zeros-requires c = let a = c.args in
     omega (arith, room (goal.at.put_zeros-requires c).Then-plan, (point_put (goal.at.put_zeros-requires c).After-put_byte-gap).next_is, c.put_zeros-rest.ensures.next_is, length-replicate {A = ℕ} a.plan.gap 48, c.put_digits-padding.ensures.next_is, length_last (2 ^ a.digits.bits_per_digit) (a.digits.count - a.plan.leading) a.digits.value)
 
 pub returns-then-plan : goal.returns-then-plan
 unfolding fraction_text
-returns-then-plan c =     let a = c.args in
+returns-then-plan c = let a = c.args in
     let rest = rw (back a.digits.bits_per_digit a.digits.value a.digits.count a.plan.leading c.requires.0.some_bits c.requires.0.count_is c.requires.1.leading_few) at c.put_digits-padding.ensures in
     rw c.if-plan.true
     (puts_more _ _ _ (omega (arith, room (goal.at.returns-then-plan c).Then-plan)) (point_put (goal.at.returns-then-plan c).After-put_byte-gap)

@@ -8,7 +8,6 @@ use Rattle.lexical_buffer.proofs.PutLaws.{puts_more}
 use Rattle.lexical_write_float.proofs.PlanLaws.{plan_length}
 use Rattle.lexical_write_integer_spec.proofs.LastLaws.{length_last}
 use Rattle.lexical_write_integer_spec.proofs.SplitLaws.{front, shift_small}
-use borrow.Author.Rules.{rules}
 use Rattle.lexical_write_float.proofs.plan.put_plan.Goals.{After-put_leading-filled, Start}
 use Rattle.lexical_write_float.proofs.plan.put_plan.Goals as goal
 
@@ -36,14 +35,14 @@ pub put_leading-filled-requires : goal.put_leading-filled-requires
 put_leading-filled-requires c = (c.requires.0.some_bits, c.requires.0.few_bits, omega (arith, room (goal.at.put_leading-filled-requires c).Start))
 
 pub put_zeros-fraction-requires : goal.put_zeros-fraction-requires
-put_zeros-fraction-requires c =     omega (arith, room (goal.at.put_zeros-fraction-requires c).Start, digits_end (goal.at.put_zeros-fraction-requires c).After-put_leading-filled)
+put_zeros-fraction-requires c = omega (arith, room (goal.at.put_zeros-fraction-requires c).Start, digits_end (goal.at.put_zeros-fraction-requires c).After-put_leading-filled)
 
 pub put_fraction-requires : goal.put_fraction-requires
-put_fraction-requires c =     (c.requires.0, c.requires.1, omega (arith, room (goal.at.put_fraction-requires c).Start, digits_end (goal.at.put_fraction-requires c).After-put_leading-filled, c.put_zeros-fraction.ensures.next_is, length-replicate {A = ℕ} c.args.plan.filled 48))
+put_fraction-requires c = (c.requires.0, c.requires.1, omega (arith, room (goal.at.put_fraction-requires c).Start, digits_end (goal.at.put_fraction-requires c).After-put_leading-filled, c.put_zeros-fraction.ensures.next_is, length-replicate {A = ℕ} c.args.plan.filled 48))
 
 pub returns : goal.returns
 unfolding plan_text
-returns c =     let D = c.args.digits in
+returns c = let D = c.args.digits in
     let P = c.requires.0 in
     let leading = rw (front D.bits_per_digit D.value D.count c.args.plan.leading P.some_bits P.count_is c.requires.1.leading_few) at c.put_leading-filled.ensures in
     puts_more _ _ _ zero-le leading (puts_more _ _ _ (omega (arith, room (goal.at.returns c).Start, digits_end (goal.at.returns c).After-put_leading-filled)) c.put_zeros-fraction.ensures c.put_fraction.ensures)

@@ -1,14 +1,12 @@
 -- `lexical_write_float::plan::write_plan` meets its contract: plan and exponent are put where they have room. Assumes nothing.
 use Prim.Native.Nat.{ℕ, ◌≤◌, zero-le}
-use mathlib.Core.Path.{◌≡◌, sym, ◌∙◌}
+use mathlib.Core.Path.{sym}
 use mathlib.Core.List.{List, ◌++◌}
 use mathlib.Core.Logic.{⊎_elim}
-use native.Mathlib.Nat.{zero-add}
 use native.Mathlib.Omega.{arith}
 use lib.ListN.{length, length-append}
 use Rattle.lexical_write_float.specs.Code.{digits_of, Measured, plan_text, tail_text}
-use Rattle.lexical_buffer.proofs.PutLaws.{puts_more, kept, short_held}
-use borrow.Author.Rules.{rules}
+use Rattle.lexical_buffer.proofs.PutLaws.{puts_more, kept}
 use Rattle.lexical_write_float.proofs.plan.write_plan.Goals.{After-length_against-length, Else-length-room, Start}
 use Rattle.lexical_write_float.proofs.plan.write_plan.Goals as goal
 
@@ -28,10 +26,10 @@ room c =
     ⊎_elim (λ e. omega arith) (λ w. w.1) measured'
 
 pub put_plan-mark-requires : goal.put_plan-mark-requires
-put_plan-mark-requires c =     (c.requires.0, c.requires.1, omega (arith, room (goal.at.put_plan-mark-requires c).Else-length-room, length-append (front (goal.at.put_plan-mark-requires c).Start) (tail (goal.at.put_plan-mark-requires c).Start)))
+put_plan-mark-requires c = (c.requires.0, c.requires.1, omega (arith, room (goal.at.put_plan-mark-requires c).Else-length-room, length-append (front (goal.at.put_plan-mark-requires c).Start) (tail (goal.at.put_plan-mark-requires c).Start)))
 
 pub write_exponent-requires : goal.write_exponent-requires
-write_exponent-requires c =     (c.requires.2, c.requires.3, omega (arith, room (goal.at.write_exponent-requires c).Else-length-room, length-append (front (goal.at.write_exponent-requires c).Start) (tail (goal.at.write_exponent-requires c).Start), c.put_plan-mark.ensures.next_is))
+write_exponent-requires c = (c.requires.2, c.requires.3, omega (arith, room (goal.at.write_exponent-requires c).Else-length-room, length-append (front (goal.at.write_exponent-requires c).Start) (tail (goal.at.write_exponent-requires c).Start), c.put_plan-mark.ensures.next_is))
 
 pub returns-clause-buffer_after : goal.returns-clause-buffer_after
 returns-clause-buffer_after c = let put = puts_more _ _ _ zero-le c.put_plan-mark.ensures c.write_exponent.ensures in

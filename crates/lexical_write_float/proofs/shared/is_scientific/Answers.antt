@@ -1,5 +1,4 @@
 -- `lexical_write_float::shared::is_scientific` meets its contract: by the two flags, then by the breaks. Assumes nothing.
-use Rattle.lexical_format.specs.Format.{outside}
 use Rattle.lexical_write_float_spec.specs.Text.{is_scientific}
 use mathlib.Core.Path.{refl, ◌∙◌}
 use Rattle.lexical_write_float.proofs.shared.is_scientific.Goals as goal

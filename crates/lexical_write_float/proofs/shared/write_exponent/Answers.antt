@@ -9,7 +9,6 @@ use Prim.Native.Nat.{◌+◌, ◌≤◌}
 use mathlib.Core.List.{[], ◌∷◌}
 use lib.ListN.{length}
 use Rattle.lexical_write_integer_spec.specs.Digits.{numeral}
-use borrow.Author.Rules.{rules}
 use Rattle.lexical_write_float.proofs.shared.write_exponent.Goals.{After-put_byte-sign, After-put_number, In-Scientific}
 use Rattle.lexical_write_float.proofs.shared.write_exponent.Goals as goal
 
@@ -35,7 +34,7 @@ write_exponent_sign-magnitude-requires c = omega (arith, room (goal.at.write_exp
 
 pub returns-in-Scientific : goal.returns-in-Scientific
 unfolding power_text
-returns-in-Scientific c =     rw c.in-Scientific.is
+returns-in-Scientific c = rw c.in-Scientific.is
     (puts_more _ _ _ (omega (arith, room (goal.at.returns-in-Scientific c).In-Scientific)) (puts_more _ _ _ (omega (arith, room (goal.at.returns-in-Scientific c).In-Scientific)) (mark_put (goal.at.returns-in-Scientific c).After-put_byte-sign) c.write_exponent_sign-magnitude.ensures) (number_put (goal.at.returns-in-Scientific c).After-put_number))
 
 pub returns-in-Negative : goal.returns-in-Negative

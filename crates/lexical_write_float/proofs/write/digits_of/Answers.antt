@@ -10,7 +10,6 @@ use Rattle.lexical_write_integer_spec.proofs.DigitsAnswer.{log_known}
 use Rattle.lexical_write_integer_spec.proofs.NumeralLaws.{length_one}
 use Rattle.lexical_write_float_spec.proofs.ValueLaws.{exact_few}
 use Rattle.lexical_write_float.proofs.TextLaws.{shift_below, shift_fits}
-use borrow.Author.Rules.{rules}
 use Rattle.lexical_write_float.proofs.write.digits_of.Goals.{After-calculate_shl-shl}
 use Rattle.lexical_write_float.proofs.write.digits_of.Goals as goal
 
@@ -28,7 +27,7 @@ shift_is c =
 
 pub returns : goal.returns
 unfolding exact_digits
-returns c =     let a = c.args in
+returns c = let a = c.args in
     let n : c.digit_log.result ≡ length (numeral (2 ^ a.bits_per_digit) 1 (shifted (goal.at.returns c).After-calculate_shl-shl)) = c.digit_log.ensures ∙ log_known _ _ c.requires.0 ∙ sym (length_one (2 ^ a.bits_per_digit) (shifted (goal.at.returns c).After-calculate_shl-shl)) in
     let same = ap (numeral (2 ^ a.bits_per_digit) 1) (shift_is (goal.at.returns c).After-calculate_shl-shl) in
     let few : length (numeral (2 ^ a.bits_per_digit) 1 (a.value.mantissa * 2 ^ modulo a.value.exponent.0 a.bits_per_digit)) ≤ 64 = exact_few a.bits_per_digit a.value.mantissa a.value.exponent.0 c.requires.0 c.requires.1 c.requires.2 in

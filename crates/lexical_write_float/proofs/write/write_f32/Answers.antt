@@ -3,7 +3,6 @@ use mathlib.Core.Path.{sym, subst}
 use lib.Dec.{T}
 use lib.Ieee.{binary32, fits}
 use Rattle.lexical_write_float.proofs.AnswerLaws.{float_answered, of_float}
-use borrow.Author.Rules.{rules}
 use Rattle.lexical_write_float.proofs.write.write_f32.Goals.{Start}
 use Rattle.lexical_write_float.proofs.write.write_f32.Goals as goal
 
@@ -11,7 +10,7 @@ owned : (c : Start) → T (fits binary32 c.args.x)
 owned c = subst T (sym c.well_formed.0.1) tt
 
 pub write_parts-requires : goal.write_parts-requires
-write_parts-requires c =     of_float binary32 c.args.x _ (owned (goal.at.write_parts-requires c).Start) c.parts_f32.ensures.value_2 c.parts_f32.ensures.value
+write_parts-requires c = of_float binary32 c.args.x _ (owned (goal.at.write_parts-requires c).Start) c.parts_f32.ensures.value_2 c.parts_f32.ensures.value
 
 pub returns : goal.returns
 returns c = let f = float_answered binary32 c.args.format c.args.options c.args.x c.args.buffer.now (owned (goal.at.returns c).Start) _ _ _ c.parts_f32.ensures.value_2 c.parts_f32.ensures.value c.write_parts.ensures.result_value c.write_parts.ensures.buffer_after in

@@ -6,16 +6,15 @@ use lib.ListN.{length}
 use Rattle.lexical_util.specs.Answer.{done, held}
 use Rattle.lexical_write_float.proofs.FloatLaws.{normal_near, limited_near, limited_text_lem}
 use Rattle.lexical_write_float.proofs.TextLaws.{known}
-use borrow.Author.Rules.{rules}
 use Rattle.lexical_write_float.proofs.write.write_float.Goals as goal
 
 pub truncate_and_round-limited-requires : goal.truncate_and_round-limited-requires
-truncate_and_round-limited-requires c =     let K = known _ _ _ c.requires.0 in
+truncate_and_round-limited-requires c = let K = known _ _ _ c.requires.0 in
     let n = normal_near _ c.requires.1 _ c.normalized-exact.ensures in
     (n.0, n.1, K.some_bits, K.few_bits, K.few_most)
 
 pub write_value-requires : goal.write_value-requires
-write_value-requires c =     (c.requires.0, limited_near _ c.requires.1 _ c.normalized-exact.ensures _ _ _ _ (known _ _ _ c.requires.0).some_bits c.truncate_and_round-limited.ensures)
+write_value-requires c = (c.requires.0, limited_near _ c.requires.1 _ c.normalized-exact.ensures _ _ _ _ (known _ _ _ c.requires.0).some_bits c.truncate_and_round-limited.ensures)
 
 pub returns : goal.returns
 returns c = let a = c.args in

@@ -1,9 +1,8 @@
 -- `lexical_write_float::write::write_parts` meets its contract: the check's refusal, or what the parts are asked for. Assumes nothing.
-use mathlib.Core.Path.{◌≡◌, refl, sym, ap, ◌∙◌}
+use mathlib.Core.Path.{◌≡◌, sym}
 use Rattle.lexical_util.specs.Answer.{done}
-use Rattle.lexical_format.specs.Format.{checked_format, of_writing_check}
+use Rattle.lexical_format.specs.Format.{checked_format}
 use Rattle.lexical_write_float.proofs.AnswerLaws.{passed}
-use borrow.Author.Rules.{rules}
 use Rattle.lexical_write_float.proofs.write.write_parts.Goals.{In-Passed}
 use Rattle.lexical_write_float.proofs.write.write_parts.Goals as goal
 

@@ -13,7 +13,6 @@ use Rattle.lexical_write_float_spec.proofs.LengthLaws.{power_few}
 use Rattle.lexical_write_float.proofs.StoredLaws.{near_held}
 use Rattle.lexical_write_float.proofs.TextLaws.{Known, known, counted_some, IsLaid, laid_text}
 use native.Mathlib.Omega.{arith}
-use borrow.Author.Rules.{rules}
 use Rattle.lexical_write_float.proofs.write.write_value.Goals.{After-place_by_bits-placed, After-plan_of-plan, Start}
 use Rattle.lexical_write_float.proofs.write.write_value.Goals as goal
 
@@ -59,10 +58,10 @@ pub place_by_bits-placed-requires : goal.place_by_bits-placed-requires
 place_by_bits-placed-requires c = let K = format_known (goal.at.place_by_bits-placed-requires c).Start in (K.some_bits, K.few_bits, c.requires.1.few)
 
 pub plan_of-plan-requires : goal.plan_of-plan-requires
-plan_of-plan-requires c =     (counted_some _ c.place_by_bits-placed.ensures.counted, near (goal.at.plan_of-plan-requires c).After-place_by_bits-placed, (format_known (goal.at.plan_of-plan-requires c).Start).few_least)
+plan_of-plan-requires c = (counted_some _ c.place_by_bits-placed.ensures.counted, near (goal.at.plan_of-plan-requires c).After-place_by_bits-placed, (format_known (goal.at.plan_of-plan-requires c).Start).few_least)
 
 pub write_plan-requires : goal.write_plan-requires
-write_plan-requires c =     (c.place_by_bits-placed.ensures.counted, c.plan_of-plan.ensures.small, (format_known (goal.at.write_plan-requires c).Start).power_radix, (format_known (goal.at.write_plan-requires c).Start).power_width, rw c.base_exponent-exponent.ensures.magnitude (power_few c.args.checked.b c.args.checked.c c.place_by_bits-placed.result.p.0 (format_known (goal.at.write_plan-requires c).Start).few_bits (near (goal.at.write_plan-requires c).After-place_by_bits-placed)))
+write_plan-requires c = (c.place_by_bits-placed.ensures.counted, c.plan_of-plan.ensures.small, (format_known (goal.at.write_plan-requires c).Start).power_radix, (format_known (goal.at.write_plan-requires c).Start).power_width, rw c.base_exponent-exponent.ensures.magnitude (power_few c.args.checked.b c.args.checked.c c.place_by_bits-placed.result.p.0 (format_known (goal.at.write_plan-requires c).Start).few_bits (near (goal.at.write_plan-requires c).After-place_by_bits-placed)))
 
 pub returns : goal.returns
 returns c = let a = c.args in

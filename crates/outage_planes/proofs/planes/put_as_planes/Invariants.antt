@@ -1,0 +1,20 @@
+-- `outage_planes::planes::put_as_planes` meets its contract. The loop's invariant: the first planes have been put. Assumes nothing.
+use Prim.Native.Nat.{◌+◌, ◌-◌, ◌*◌, ◌≤◌}
+use mathlib.Core.Path.{◌≡◌, refl, ◌∙◌}
+use mathlib.Core.List.{[]}
+use native.Mathlib.Nat.{mul-suc, mul-zero}
+use native.Mathlib.Numerals.{add-one}
+use native.Mathlib.Omega.{arith}
+use lib.ListN.{length, take, get_or}
+use lib.Seq.{length-take-le}
+use Rattle.lexical_buffer.specs.Put.{Puts}
+use Rattle.lexical_buffer.proofs.PutLaws.{puts_none, puts_more}
+use Rattle.outage_planes.specs.Code.{of_each}
+use Rattle.outage_planes.proofs.PlaneLaws.{eighth, each_none, each_more, each_all}
+use Rattle.outage_planes.proofs.planes.put_as_planes.Given as goal
+
+abbrev pub invariant-loop-j : goal.invariant-loop-j
+invariant-loop-j l = Puts l.initial.packed l.at (of_each (take l.n) (take l.j l.planes)) l.next l.packed × (l.next ≡ l.at + l.n * l.j) × (l.j ≤ 8) × (length l.packed ≡ length l.initial.packed)
+
+abbrev pub decreases-loop-j : goal.decreases-loop-j
+decreases-loop-j l = 8 - l.j

@@ -1,0 +1,72 @@
+-- `outage_sheet::to_table::read_rows` meets its contract. The loop's invariant: what is left, with the table so far, makes all of it. Assumes nothing.
+use Prim.Native.Nat.{ℕ, ◌+◌, ◌-◌, ◌≤◌, ◌<◌}
+use mathlib.Core.Path.{◌≡◌, refl}
+use mathlib.Core.List.{List}
+use native.Mathlib.Omega.{arith}
+use borrow.Author.Rules.{rules}
+use lib.ListN.{length, drop}
+use Rattle.lexical_util.specs.Answer.{Answer, done, refused}
+use Rattle.outage_spec.specs.declared.window.Window.{Window}
+use Rattle.outage.specs.Answer.{of_checked_window}
+use Rattle.outage_spec.specs.Sheet.{before, row_in}
+use Rattle.outage_sheet.specs.Fill.{Stored, put_window}
+use Rattle.outage_sheet.proofs.RowLaws.{Within, end_there, row_there, row_known, row_ends}
+use Rattle.outage_sheet.proofs.LinesLaws.{Left, left_all, left_more, left_stop, left_extra, left_none}
+use Rattle.outage_sheet.proofs.to_table.read_rows.Goals.{In-Passed, In-Refused}
+use Rattle.outage_sheet.proofs.to_table.read_rows.Goals as goal
+
+-- a window that passed: its row, whether it can be stored, and where it ends
+module _ (c : In-Passed) where
+  row_done : row_in c.args.format c.args.options (drop c.loop-i.at c.args.sheet.now) ≡ done c.in-Passed.window
+  row_done = row_there c.args.format c.args.options c.args.sheet.now c.loop-i.at (done c.in-Passed.window) (done c.in-Passed.window) c.in-Passed.ensures refl
+
+  known : Within Stored (length c.args.sheet.now - c.loop-i.at) (done c.in-Passed.window)
+  known = row_known c.args.format c.args.options c.args.sheet.now c.loop-i.at (done c.in-Passed.window) (done c.in-Passed.window) c.in-Passed.ensures refl
+
+  end_is : c.find-newline.result ≡ length (before 10 (drop c.loop-i.at c.args.sheet.now))
+  end_is = end_there c.args.sheet.now c.loop-i.at c.find-newline.result c.find-newline.ensures.value
+
+  inside : c.loop-i.at + c.find-newline.result < length c.args.sheet.now
+  inside = row_ends c.args.format c.args.options c.args.sheet.now c.loop-i.at c.find-newline.result end_is c.in-Passed.window row_done
+
+  again : (t' : List ℕ) → t' ≡ put_window c.loop-i.table c.args.n c.loop-i.i c.in-Passed.window → length t' ≡ length c.loop-i.table
+      → Left c.args.format c.args.options c.args.sheet.now c.args.from c.args.n c.args.table.now (c.loop-i.i + 1) (c.loop-i.at + (c.find-newline.result + 1)) t'
+  again =
+      left_more c.args.format c.args.options c.args.sheet.now c.args.from c.args.n c.args.table.now c.loop-i.i c.loop-i.at c.loop-i.table c.loop-i.invariant.0
+      c.in-Passed.window c.find-newline.result (omega arith) end_is row_done
+
+-- a refusal: its row, and that its place lies in it
+module _ (c : In-Refused) where
+  row_refused : row_in c.args.format c.args.options (drop c.loop-i.at c.args.sheet.now) ≡ refused c.in-Refused.refusal.number c.in-Refused.refusal.place
+  row_refused = row_there c.args.format c.args.options c.args.sheet.now c.loop-i.at (refused c.in-Refused.refusal.number c.in-Refused.refusal.place) (refused c.in-Refused.refusal.number c.in-Refused.refusal.place) c.in-Refused.ensures refl
+
+  place_in : c.in-Refused.refusal.place ≤ length c.args.sheet.now - c.loop-i.at
+  place_in = row_known c.args.format c.args.options c.args.sheet.now c.loop-i.at (refused c.in-Refused.refusal.number c.in-Refused.refusal.place) (refused c.in-Refused.refusal.number c.in-Refused.refusal.place) c.in-Refused.ensures refl
+
+pub put_window-requires : goal.put_window-requires
+put_window-requires c = (omega arith, omega arith, omega (arith, c.loop-i.invariant.0.same), known (goal.at.put_window-requires c).In-Passed)
+
+pub overflow_add-result : goal.overflow_add-result
+overflow_add-result c = omega (arith, c.loop-i.invariant.2, place_in (goal.at.overflow_add-result c).In-Refused)
+
+pub returns-in-Refused : goal.returns-in-Refused
+returns-in-Refused c =
+    let a = c.args in
+    let l = c.loop-i in
+    let f = left_stop a.format a.options a.sheet.now a.from a.n a.table.now l.i l.at l.table l.invariant.0 c.in-Refused.refusal.number c.in-Refused.refusal.place (omega arith) (row_refused (goal.at.returns-in-Refused c).In-Refused) in
+    record { result_value = f.0; filled_table = f.1 }
+
+pub loop-i-preserved : goal.loop-i-preserved
+loop-i-preserved c = let w = (goal.at.loop-i-preserved c).In-Passed in (again w _ c.put_window.ensures c.put_window.auto.table, omega arith, omega (arith, inside w))
+
+pub returns-then-at-sheet : goal.returns-then-at-sheet
+returns-then-at-sheet c = let l = c.loop-i in
+    let a = c.args in
+    let f = left_extra a.format a.options a.sheet.now a.from a.n a.table.now l.i l.at l.table l.invariant.0 (omega arith) (omega arith) in
+    record { result_value = f.0; filled_table = f.1 }
+
+pub returns : goal.returns
+returns c = let l = c.loop-i in
+    let a = c.args in
+    let f = left_none a.format a.options a.sheet.now a.from a.n a.table.now l.i l.at l.table l.invariant.0 (omega arith) (omega arith) in
+    record { result_value = f.0; filled_table = f.1 }
