@@ -1,0 +1,7 @@
+-- `outage_console::screen::put_answer` meets its contract: a refusal is put at the front, and nothing else changes. Assumes nothing.
+use borrow.Author.Rules.{rules}
+use Rattle.outage_console.proofs.ScreenLaws.{put_line}
+use Rattle.outage_console.proofs.screen.put_answer.Goals as goal
+
+pub returns-in-Refused-clause-out_after : goal.returns-in-Refused-clause-out_after
+returns-in-Refused-clause-out_after c = rw c.in-Refused.is (put_line _ _ _ _ _ c.put_refusal.ensures).1
