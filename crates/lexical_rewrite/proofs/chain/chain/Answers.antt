@@ -3,13 +3,10 @@ use mathlib.Core.Path.{sym, ap, ◌∙◌}
 use mathlib.Core.List.{List}
 use Prim.Native.Nat.{ℕ}
 use native.Mathlib.Omega.{arith}
-use borrow.Author.Rules.{rules}
 use lib.ListN.{take, replicate, length-replicate}
 use Rattle.lexical_float.specs.Encoding.{of_width}
-use Rattle.lexical_rewrite_spec.specs.Rewrite.{read_in}
 use Rattle.lexical_rewrite_spec.specs.Chain.{Outcome, at_station}
 use Rattle.lexical_rewrite_spec.specs.Demand.{Roomy}
-use Rattle.lexical_rewrite_spec.proofs.StationLaws.{rewritten_fits}
 use Rattle.lexical_rewrite.specs.Answer.{of_rewritten}
 use Rattle.lexical_rewrite.specs.Code.{on_from}
 use Rattle.lexical_rewrite.proofs.ChainLaws.{alone, on_more}

@@ -1,5 +1,4 @@
 -- `lexical_rewrite::chain::chain_f32` meets its contract, by the chain at its width. Assumes nothing.
-use borrow.Author.Rules.{rules}
 use lib.Ieee.{binary32}
 use Rattle.lexical_rewrite_spec.specs.Record.{formats_of}
 use Rattle.lexical_rewrite_spec.proofs.DemandLaws.{never_lost_by}

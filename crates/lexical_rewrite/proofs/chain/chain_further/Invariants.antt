@@ -1,18 +1,9 @@
 -- `lexical_rewrite::chain::chain_further` meets its contract. The loop's invariant: what is left of the chain from here is what all of it is, of stations behind the first. Assumes nothing.
 use Prim.Native.Nat.{◌+◌, ◌-◌, ◌≤◌, ◌<◌}
-use mathlib.Core.Path.{◌≡◌, sym, ap, ◌∙◌}
-use native.Mathlib.Omega.{arith}
-use borrow.Author.Rules.{rules}
+use mathlib.Core.Path.{◌≡◌}
 use lib.ListN.{length, take, drop}
-use lib.Seq.{length-take-le}
 use Rattle.lexical_float.specs.Encoding.{of_width}
-use Rattle.lexical_rewrite_spec.specs.declared.text_format.TextFormat.{TextFormat}
-use Rattle.lexical_rewrite_spec.specs.Rewrite.{read_in}
-use Rattle.lexical_rewrite_spec.specs.Chain.{Outcome, at_station}
-use Rattle.lexical_rewrite_spec.proofs.StationLaws.{rewritten_fits}
-use Rattle.lexical_rewrite.specs.Answer.{of_rewritten}
 use Rattle.lexical_rewrite.specs.Code.{on_from, source_at}
-use Rattle.lexical_rewrite.proofs.ChainLaws.{from_last, from_more, source_first, source_next}
 use Rattle.lexical_write_float_spec.specs.Write.{longest_text}
 use Rattle.lexical_rewrite.proofs.chain.chain_further.Given as goal
 

@@ -1,6 +1,5 @@
 -- `lexical_rewrite::chain::source_at` meets its contract: no record is before one at a place within the first. Assumes nothing.
 use mathlib.Core.Path.{sym, ◌∙◌}
-use native.Mathlib.Omega.{arith}
 use Rattle.lexical_rewrite.proofs.ChainLaws.{source_first, source_before}
 use Rattle.lexical_rewrite.proofs.chain.source_at.Goals as goal
 

@@ -1,5 +1,4 @@
 -- `lexical_rewrite::record::number_format_of_record` meets its contract, byte by byte. Assumes nothing.
-use borrow.Author.Rules.{rules}
 use Rattle.lexical_rewrite_spec.specs.Record.{number_format_of_record}
 use Rattle.lexical_rewrite.proofs.record.number_format_of_record.Goals as goal
 

@@ -1,6 +1,5 @@
 -- `lexical_rewrite::record::options_of_record` meets its contract, byte by byte. Assumes nothing.
 use mathlib.Core.Path.{◌∙◌}
-use borrow.Author.Rules.{rules}
 use Rattle.lexical_exponent.proofs.DifferenceLaws.{read_back}
 use Rattle.lexical_rewrite_spec.specs.Record.{options_of_record}
 use Rattle.lexical_rewrite.proofs.record.options_of_record.Goals as goal

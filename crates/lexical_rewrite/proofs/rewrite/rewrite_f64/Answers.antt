@@ -1,5 +1,4 @@
 -- `lexical_rewrite::rewrite::rewrite_f64` meets its contract, by the reading's answer. Assumes nothing.
-use borrow.Author.Rules.{rules}
 use lib.Ieee.{binary64}
 use Rattle.lexical_rewrite_spec.proofs.DemandLaws.{same_as_others_by}
 use Rattle.lexical_rewrite.specs.Answer.{of_rewritten}

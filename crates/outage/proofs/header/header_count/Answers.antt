@@ -1,7 +1,6 @@
 -- `outage::header::header_count` meets its contract: the checks of the header in their order. Assumes nothing.
 use mathlib.Core.Path.{◌≡◌, refl, ◌∙◌}
 use native.Mathlib.Omega.{arith}
-use borrow.Author.Rules.{rules}
 use Rattle.outage_spec.specs.Words.{word_at}
 use Rattle.outage_spec.proofs.PartLaws.{part_word}
 use Rattle.outage.proofs.HeaderLaws.{count_short, count_many, count_field, count_lent, count_is}

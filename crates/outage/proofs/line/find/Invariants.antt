@@ -1,11 +1,8 @@
 -- `outage::line::find` meets its contract. The loop's invariant: the place, and how far the byte is from there, make the place of the byte in the whole. Assumes nothing.
 use Prim.Native.Nat.{◌+◌, ◌-◌, ◌≤◌}
 use mathlib.Core.Path.{◌≡◌}
-use native.Mathlib.Numerals.{add-one}
-use native.Mathlib.Omega.{arith}
 use lib.ListN.{length, drop}
 use Rattle.outage_spec.specs.Sheet.{before}
-use Rattle.outage.proofs.FindLaws.{before_more, before_here, before_none}
 use Rattle.outage.proofs.line.find.Given as goal
 
 abbrev pub invariant-loop-at : goal.invariant-loop-at

@@ -1,13 +1,8 @@
 -- `outage::line::number_on` meets its contract. The loop's invariant: the digits left, behind the number so far, make the number of the whole. Assumes nothing.
-use Prim.Native.Nat.{◌+◌, ◌-◌, ◌≤◌}
-use mathlib.Core.Path.{◌≡◌, refl, sym, ap, ◌∙◌}
-use native.Mathlib.Omega.{arith}
-use borrow.Author.Rules.{rules}
+use Prim.Native.Nat.{◌-◌, ◌≤◌}
+use mathlib.Core.Path.{◌≡◌}
 use lib.ListN.{length, drop}
-use Rattle.lexical_util.specs.Digit.{of_digit_value}
-use Rattle.lexical_digit_reader.proofs.PlaceLaws.{place_here}
 use Rattle.outage.specs.Code.{number_on}
-use Rattle.outage.proofs.NumberLaws.{at_end, at_other, at_letter, at_above, at_next}
 use Rattle.outage.proofs.line.number_on.Given as goal
 
 abbrev pub invariant-loop-at : goal.invariant-loop-at

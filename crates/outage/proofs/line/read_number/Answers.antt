@@ -1,7 +1,6 @@
 -- `outage::line::read_number` meets its contract: by the number of digits, and the first of them. Assumes nothing.
 use mathlib.Core.Path.{◌≡◌, sym, ◌∙◌}
 use native.Mathlib.Omega.{arith}
-use borrow.Author.Rules.{rules}
 use Rattle.outage_spec.specs.Sheet.{number_in}
 use Rattle.outage_spec.proofs.NumberLaws.{spelled, in_none, in_one, in_first, in_zero}
 use Rattle.outage.proofs.NumberLaws.{on_is}

@@ -1,11 +1,9 @@
 -- `outage::word::word_of` meets its contract. The loop's invariant: the number so far is that of the bytes from `left` on. Assumes nothing.
-use Prim.Native.Nat.{◌-◌, ◌≤◌, ◌<◌, ◌^◌}
+use Prim.Native.Nat.{◌-◌, ◌<◌, ◌^◌}
 use mathlib.Core.Path.{◌≡◌}
-use mathlib.Core.Logic.{⊎_elim}
 use native.Mathlib.Omega.{arith}
-use lib.ListN.{length, take, drop, length-take}
+use lib.ListN.{length, take, length-take}
 use lib.Seq.{get_or-take}
-use Rattle.outage_spec.specs.Words.{of_bytes}
 use Rattle.outage_spec.proofs.WordLaws.{all_bytes, all_take}
 use Rattle.outage_spec.proofs.PartLaws.{part_none, part_more, part_small}
 use Rattle.outage.proofs.word.word_of.Goals.{then-bytes-left, else-bytes-left, After-shared_slice_known-1}

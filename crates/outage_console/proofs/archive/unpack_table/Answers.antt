@@ -1,6 +1,5 @@
 -- `outage_console::archive::unpack_table` meets its contract: nothing that is unpacked is longer than the bytes lent. Assumes nothing.
 use native.Mathlib.Omega.{arith}
-use borrow.Author.Rules.{rules}
 use Rattle.outage_spec.specs.Table.{table_size, most_windows}
 use Rattle.outage_planes_spec.specs.Calls.{unpacked_table}
 use Rattle.outage_planes_spec.proofs.InverseLaws.{unpacked_short}

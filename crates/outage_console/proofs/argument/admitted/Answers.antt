@@ -1,7 +1,5 @@
 -- `outage_console::argument::admitted` meets its contract, by the format's check. Assumes nothing.
-use mathlib.Core.Path.{sym, ap, ◌∙◌}
-use borrow.Author.Rules.{rules}
-use Rattle.lexical_format.specs.Format.{of_writing_check}
+use mathlib.Core.Path.{sym}
 use Rattle.outage_console.proofs.ArgumentLaws.{passed_admitted, refused_admitted}
 use Rattle.outage_console.proofs.argument.admitted.Goals as goal
 

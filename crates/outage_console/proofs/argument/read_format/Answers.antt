@@ -1,6 +1,5 @@
 -- `outage_console::argument::read_format` meets its contract, by the parts between the slashes. Assumes nothing.
 use mathlib.Core.Path.{sym, ap, ◌∙◌}
-use borrow.Author.Rules.{rules}
 use Rattle.outage_spec.specs.Sheet.{number_in}
 use Rattle.outage_console.proofs.ArgumentLaws.{behind, in_front, one_part, two_parts, three_parts}
 use Rattle.outage_console.proofs.argument.read_format.Goals as goal

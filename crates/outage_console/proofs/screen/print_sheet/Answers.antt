@@ -1,6 +1,5 @@
 -- `outage_console::screen::print_sheet` meets its contract: no sheet is longer than the bytes lent. Assumes nothing.
 use native.Mathlib.Omega.{arith}
-use borrow.Author.Rules.{rules}
 use Rattle.outage_spec.specs.Format.{printed}
 use Rattle.outage_spec.proofs.LengthLaws.{sheet_short}
 use Rattle.outage_spec.proofs.WordLaws.{all_bytes}

@@ -1,5 +1,4 @@
 -- `outage_console::screen::put_answer` meets its contract: a refusal is put at the front, and nothing else changes. Assumes nothing.
-use borrow.Author.Rules.{rules}
 use Rattle.outage_console.proofs.ScreenLaws.{put_line}
 use Rattle.outage_console.proofs.screen.put_answer.Goals as goal
 

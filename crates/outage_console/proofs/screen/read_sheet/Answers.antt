@@ -1,6 +1,5 @@
 -- `outage_console::screen::read_sheet` meets its contract: no table is longer than the bytes lent. Assumes nothing.
 use native.Mathlib.Omega.{arith}
-use borrow.Author.Rules.{rules}
 use Rattle.outage_console.specs.Screen.{reading}
 use Rattle.outage_console.proofs.ScreenLaws.{put_shown, reading_within}
 use Rattle.outage_spec.specs.Table.{table_size, most_windows}

@@ -10,7 +10,6 @@ use Rattle.outage_spec.proofs.LengthLaws.{sheet_short}
 use Rattle.outage_console.specs.Screen.{reading, rewriting}
 use Rattle.outage_console.proofs.ScreenLaws.{Got, got, not_got, put_shown, line_shown, reading_within, rewriting_done, rewriting_refused, same_rows}
 use Rattle.outage_console.proofs.WeekLaws.{sheet_returns}
-use borrow.Author.Rules.{rules}
 use Rattle.outage_spec.specs.Sheet.{sheet_size}
 use Rattle.outage_spec.specs.Table.{table_size, most_windows}
 use Rattle.lexical_write_float_spec.specs.Write.{longest_text}

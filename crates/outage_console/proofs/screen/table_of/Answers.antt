@@ -1,7 +1,5 @@
 -- `outage_console::screen::table_of` meets its contract: a sheet that is too long, or the call, which has room. Assumes nothing.
-use mathlib.Core.Path.{refl}
 use native.Mathlib.Omega.{arith}
-use borrow.Author.Rules.{rules}
 use lib.ListN.{length}
 use Rattle.outage_console.proofs.ScreenLaws.{reading_long, reading_short}
 use Rattle.outage_console.proofs.screen.table_of.Goals as goal

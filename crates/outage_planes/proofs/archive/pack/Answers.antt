@@ -1,5 +1,4 @@
 -- `outage_planes::archive::pack` meets its contract: a table transposed to planes, refused by 13. Assumes nothing.
-use borrow.Author.Rules.{rules}
 use Rattle.outage_spec.proofs.HeaderLaws.{table_header}
 use Rattle.outage_planes_spec.specs.Calls.{packed_table}
 use Rattle.outage_planes_spec.proofs.InverseLaws.{unpacks_back}

@@ -1,8 +1,6 @@
 -- `outage_planes::archive::transpose` meets its contract: the header's refusal, or its columns. Assumes nothing.
-use mathlib.Core.Path.{◌≡◌, refl, sym, ap, ◌∙◌}
-use borrow.Author.Rules.{rules}
+use mathlib.Core.Path.{◌≡◌, refl, sym}
 use Rattle.lexical_util.specs.Answer.{done}
-use Rattle.outage.specs.Answer.{of_count}
 use Rattle.outage_spec.specs.Table.{header_count}
 use Rattle.outage_spec.proofs.HeaderLaws.{header_is}
 use Rattle.outage_planes.proofs.archive.transpose.Goals.{In-Windows}

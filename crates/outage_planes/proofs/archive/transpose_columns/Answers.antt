@@ -1,12 +1,10 @@
 -- `outage_planes::archive::transpose_columns` meets its contract: the header and both columns, one behind the other. Assumes nothing.
-use mathlib.Core.Path.{sym}
 use native.Mathlib.Omega.{arith}
-use borrow.Author.Rules.{rules}
 use lib.ListN.{take}
 use lib.Seq.{length-take-le}
 use Rattle.lexical_buffer.specs.Put.{Puts}
 use Rattle.lexical_buffer.proofs.PutLaws.{text_puts}
-use Rattle.outage_planes.proofs.ColumnLaws.{columns_short, header_ends, starts_end, columns_put}
+use Rattle.outage_planes.proofs.ColumnLaws.{columns_short, starts_end, columns_put}
 use Rattle.outage_planes.proofs.archive.transpose_columns.Goals.{After-put_bytes-starts}
 use Rattle.outage_planes.proofs.archive.transpose_columns.Goals as goal
 

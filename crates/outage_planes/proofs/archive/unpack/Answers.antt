@@ -1,5 +1,4 @@
 -- `outage_planes::archive::unpack` meets its contract: planes transposed to a table, refused by 17. Assumes nothing.
-use borrow.Author.Rules.{rules}
 use Rattle.outage_planes_spec.specs.Calls.{unpacked_table}
 use Rattle.outage_planes_spec.proofs.InverseLaws.{packs_back}
 use Rattle.outage_planes.proofs.archive.unpack.Goals as goal

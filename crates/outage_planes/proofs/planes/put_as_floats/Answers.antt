@@ -1,11 +1,7 @@
 -- `outage_planes::planes::put_as_floats` meets its contract. The loop's invariant: the first floats have been put. Assumes nothing.
-use Prim.Native.Nat.{◌+◌, ◌-◌, ◌*◌, ◌≤◌}
-use mathlib.Core.Path.{◌≡◌, refl, ◌∙◌}
+use mathlib.Core.Path.{refl, ◌∙◌}
 use native.Mathlib.Omega.{arith}
-use lib.ListN.{length}
-use Rattle.lexical_buffer.specs.Put.{Puts}
 use Rattle.lexical_buffer.proofs.PutLaws.{puts_none, puts_more}
-use Rattle.outage_planes.specs.Code.{bytes_across}
 use Rattle.outage_planes.proofs.PlaneLaws.{across_length, across_none, across_more}
 use Rattle.outage_planes.proofs.planes.put_as_floats.Goals as goal
 

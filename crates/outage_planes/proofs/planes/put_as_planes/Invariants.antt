@@ -1,16 +1,9 @@
 -- `outage_planes::planes::put_as_planes` meets its contract. The loop's invariant: the first planes have been put. Assumes nothing.
 use Prim.Native.Nat.{◌+◌, ◌-◌, ◌*◌, ◌≤◌}
-use mathlib.Core.Path.{◌≡◌, refl, ◌∙◌}
-use mathlib.Core.List.{[]}
-use native.Mathlib.Nat.{mul-suc, mul-zero}
-use native.Mathlib.Numerals.{add-one}
-use native.Mathlib.Omega.{arith}
-use lib.ListN.{length, take, get_or}
-use lib.Seq.{length-take-le}
+use mathlib.Core.Path.{◌≡◌}
+use lib.ListN.{length, take}
 use Rattle.lexical_buffer.specs.Put.{Puts}
-use Rattle.lexical_buffer.proofs.PutLaws.{puts_none, puts_more}
 use Rattle.outage_planes.specs.Code.{of_each}
-use Rattle.outage_planes.proofs.PlaneLaws.{eighth, each_none, each_more, each_all}
 use Rattle.outage_planes.proofs.planes.put_as_planes.Given as goal
 
 abbrev pub invariant-loop-j : goal.invariant-loop-j

@@ -1,6 +1,4 @@
 -- `outage_planes::planes::put_first` meets its contract. Assumes nothing.
-use mathlib.Core.Path.{sym}
-use borrow.Author.Rules.{rules}
 use lib.Seq.{length-take-le}
 use Rattle.lexical_buffer.proofs.PutLaws.{text_puts}
 use Rattle.outage_planes.proofs.planes.put_first.Goals as goal

@@ -1,10 +1,8 @@
 -- `outage_sheet::row::fields_window` meets its contract: the start's refusal, the end's, or the check of both. Assumes nothing.
-use mathlib.Core.Path.{sym, ap, subst, ◌∙◌}
+use mathlib.Core.Path.{sym, subst, ◌∙◌}
 use native.Mathlib.Omega.{arith}
 use lib.ListN.{length}
-use Rattle.lexical_read_float.specs.Answer.{of_read_f64}
 use Rattle.outage_sheet.proofs.RowLaws.{Within, IsNumber, read_within, fields_start, fields_end, fields_both}
-use borrow.Author.Rules.{rules}
 use Rattle.outage_sheet.proofs.row.fields_window.Goals as goal
 
 pub overflow_add-result-in-Refused-read_f64 : goal.overflow_add-result-in-Refused-read_f64

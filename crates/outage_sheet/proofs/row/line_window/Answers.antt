@@ -1,11 +1,8 @@
 -- `outage_sheet::row::line_window` meets its contract: no space, a second one, or two fields. Assumes nothing.
 use Prim.Native.Nat.{◌+◌}
-use mathlib.Core.Path.{sym, ap}
+use mathlib.Core.Path.{sym}
 use native.Mathlib.Omega.{arith}
-use lib.ListN.{length, length-drop}
-use lib.Seq.{length-take-le}
 use Rattle.outage_sheet.proofs.RowLaws.{line_none, line_more, line_one}
-use borrow.Author.Rules.{rules}
 use borrow.Author.Rules.{part_to_end}
 use Rattle.outage_sheet.proofs.row.line_window.Goals as goal
 

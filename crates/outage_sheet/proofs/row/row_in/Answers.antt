@@ -4,7 +4,6 @@ use native.Mathlib.Omega.{arith}
 use lib.Seq.{length-take-le}
 use Rattle.outage_spec.proofs.BeforeLaws.{before_le}
 use Rattle.outage_sheet.proofs.RowLaws.{row_none, row_line}
-use borrow.Author.Rules.{rules}
 use Rattle.outage_sheet.proofs.row.row_in.Goals as goal
 
 pub returns-then-newline-text : goal.returns-then-newline-text

@@ -1,12 +1,10 @@
 -- `outage_sheet::store::put_word` meets its contract. The loop's invariant: the bytes of the rest, put where the loop is, make the whole. Assumes nothing.
-use Prim.Native.Nat.{suc, ◌+◌, ◌-◌, ◌/◌, ◌%◌, ◌≤◌}
-use mathlib.Core.Path.{◌≡◌, refl, ◌∙◌}
+use Prim.Native.Nat.{suc, ◌+◌, ◌-◌, ◌/◌, ◌%◌}
+use mathlib.Core.Path.{◌≡◌, ◌∙◌}
 use mathlib.Core.List.{[], ◌∷◌}
-use native.Mathlib.Nat.{add-zero, add_assoc}
+use native.Mathlib.Nat.{add_assoc}
 use native.Mathlib.Omega.{arith}
-use borrow.Author.Rules.{rules}
-use lib.ListN.{length, length-set}
-use Rattle.lexical_buffer.specs.Put.{put}
+use lib.ListN.{length-set}
 use Rattle.lexical_buffer.proofs.PutLaws.{put_nil, put_one}
 use Rattle.outage_spec.specs.Words.{to_bytes}
 use Rattle.outage_spec.proofs.WordLaws.{bytes_more, bytes_none}

@@ -1,16 +1,9 @@
 -- `outage_sheet::store::put_word` meets its contract. The loop's invariant: the bytes of the rest, put where the loop is, make the whole. Assumes nothing.
-use Prim.Native.Nat.{suc, ◌+◌, ◌-◌, ◌/◌, ◌%◌, ◌≤◌}
-use mathlib.Core.Path.{◌≡◌, refl, ◌∙◌}
-use mathlib.Core.List.{[], ◌∷◌}
-use native.Mathlib.Nat.{add-zero, add_assoc}
-use native.Mathlib.Omega.{arith}
-use borrow.Author.Rules.{rules}
-use lib.ListN.{length, length-set}
+use Prim.Native.Nat.{◌+◌, ◌-◌, ◌≤◌}
+use mathlib.Core.Path.{◌≡◌}
+use lib.ListN.{length}
 use Rattle.lexical_buffer.specs.Put.{put}
-use Rattle.lexical_buffer.proofs.PutLaws.{put_nil, put_one}
 use Rattle.outage_spec.specs.Words.{to_bytes}
-use Rattle.outage_spec.proofs.WordLaws.{bytes_more, bytes_none}
-use Rattle.outage_sheet.proofs.StoreLaws.{put_more}
 use Rattle.outage_sheet.proofs.store.put_word.Given as goal
 
 abbrev pub invariant-loop-done : goal.invariant-loop-done

@@ -1,17 +1,13 @@
 -- `outage_sheet::to_table::read_counted` meets its contract: the count line, room for the table, then the rows. Assumes nothing.
 use Prim.Native.Nat.{ℕ, ◌+◌, ◌≤◌}
-use mathlib.Core.Path.{◌≡◌, sym, ap, ◌∙◌}
-use mathlib.Core.List.{List}
+use mathlib.Core.Path.{◌≡◌, sym, ap}
 use mathlib.Core.Option.{none, some}
 use native.Mathlib.Omega.{arith}
 use lib.ListN.{length, take}
-use lib.Seq.{length-take-le}
 use Rattle.lexical_util.specs.Answer.{done}
-use Rattle.outage_spec.specs.Sheet.{number_in, sheet_count}
-use Rattle.outage.specs.Answer.{of_number}
+use Rattle.outage_spec.specs.Sheet.{sheet_count}
 use Rattle.outage_spec.proofs.NumberLaws.{number_le}
 use Rattle.outage_sheet.proofs.SheetLaws.{count_open, count_read, no_count, no_room, from_rows, refused_so, answered_so}
-use borrow.Author.Rules.{rules}
 use Rattle.outage_spec.specs.Table.{most_windows}
 use Rattle.outage_sheet.proofs.to_table.read_counted.Goals.{In-Is}
 use Rattle.outage_sheet.proofs.to_table.read_counted.Goals as goal

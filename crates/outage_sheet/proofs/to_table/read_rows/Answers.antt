@@ -3,15 +3,12 @@ use Prim.Native.Nat.{ℕ, ◌+◌, ◌-◌, ◌≤◌, ◌<◌}
 use mathlib.Core.Path.{◌≡◌, refl}
 use mathlib.Core.List.{List}
 use native.Mathlib.Omega.{arith}
-use borrow.Author.Rules.{rules}
 use lib.ListN.{length, drop}
-use Rattle.lexical_util.specs.Answer.{Answer, done, refused}
-use Rattle.outage_spec.specs.declared.window.Window.{Window}
-use Rattle.outage.specs.Answer.{of_checked_window}
+use Rattle.lexical_util.specs.Answer.{done, refused}
 use Rattle.outage_spec.specs.Sheet.{before, row_in}
 use Rattle.outage_sheet.specs.Fill.{Stored, put_window}
 use Rattle.outage_sheet.proofs.RowLaws.{Within, end_there, row_there, row_known, row_ends}
-use Rattle.outage_sheet.proofs.LinesLaws.{Left, left_all, left_more, left_stop, left_extra, left_none}
+use Rattle.outage_sheet.proofs.LinesLaws.{Left, left_more, left_stop, left_extra, left_none}
 use Rattle.outage_sheet.proofs.to_table.read_rows.Goals.{In-Passed, In-Refused}
 use Rattle.outage_sheet.proofs.to_table.read_rows.Goals as goal
 

@@ -4,14 +4,12 @@ use mathlib.Core.Path.{◌≡◌, sym, ap, ◌∙◌}
 use mathlib.Core.List.{List}
 use native.Mathlib.Omega.{arith}
 use lib.ListN.{drop, replicate, length-replicate}
-use lib.Seq.{length-take-le}
-use Rattle.lexical_util.specs.Answer.{Answer, done, refused, of_written}
+use Rattle.lexical_util.specs.Answer.{Answer, done, of_written}
 use Rattle.outage_spec.specs.declared.window.Window.{Window}
 use Rattle.outage_spec.specs.Table.{table_size, most_windows}
 use Rattle.outage_spec.specs.Sheet.{lines_from}
 use Rattle.outage_spec.proofs.StoredLaws.{lines_counted}
-use Rattle.outage_sheet.proofs.FillLaws.{size_of, table_read, table_refused, size_done}
-use borrow.Author.Rules.{rules}
+use Rattle.outage_sheet.proofs.FillLaws.{size_of, table_read}
 use Rattle.outage_sheet.proofs.to_table.read_table.Goals.{After-read_rows, In-Length}
 use Rattle.outage_sheet.proofs.to_table.read_table.Goals as goal
 

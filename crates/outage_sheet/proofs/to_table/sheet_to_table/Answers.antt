@@ -1,9 +1,7 @@
 -- `outage_sheet::to_table::sheet_to_table` meets its contract: the format's refusal, or what the sheet makes. Assumes nothing.
-use mathlib.Core.Path.{sym, ap, ◌∙◌}
+use mathlib.Core.Path.{sym}
 use lib.ListN.{length}
-use Rattle.lexical_format.specs.Format.{of_reading_check}
 use Rattle.outage_sheet.proofs.SheetLaws.{format_refused, format_passed, refused_so, answered_so}
-use borrow.Author.Rules.{rules}
 use Rattle.outage_sheet.proofs.to_table.sheet_to_table.Goals as goal
 
 pub returns-in-Passed : goal.returns-in-Passed

@@ -3,7 +3,6 @@ use Prim.Native.Nat.{zero-le}
 use mathlib.Core.Path.{refl}
 use mathlib.Core.List.{[], ◌∷◌}
 use native.Mathlib.Omega.{arith}
-use borrow.Author.Rules.{rules}
 use Rattle.lexical_util.specs.Digit.{is_radix, is_width}
 use Rattle.lexical_write_integer_spec.specs.Digits.{numeral}
 use Rattle.lexical_buffer.specs.Put.{Puts}

@@ -1,9 +1,5 @@
 -- `outage_table::print::put_text` meets its contract: the writer has room, so it writes the text. Assumes nothing.
-use mathlib.Core.Path.{sym, ap, ◌∙◌}
-use native.Mathlib.Omega.{arith}
-use borrow.Author.Rules.{rules}
-use Rattle.lexical_util.specs.Answer.{of_written}
-use Rattle.lexical_buffer.proofs.PutLaws.{part_count, part_puts, part_refused}
+use Rattle.lexical_buffer.proofs.PutLaws.{part_puts}
 use Rattle.outage_table.proofs.print.put_text.Goals as goal
 
 pub returns-in-Length : goal.returns-in-Length

@@ -1,6 +1,5 @@
 -- `outage_table::print::row_length` meets its contract: two texts, a space and LF. Assumes nothing.
 use native.Mathlib.Omega.{arith}
-use borrow.Author.Rules.{rules}
 use Rattle.outage_table.proofs.TextLaws.{row_length}
 use Rattle.outage_table.proofs.print.row_length.Goals as goal
 

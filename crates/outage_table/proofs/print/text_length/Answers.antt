@@ -1,13 +1,11 @@
 -- `outage_table::print::text_length` meets its contract: no text is longer than the scratch bytes, so the writer answers its length. Assumes nothing.
 use Prim.Native.Nat.{◌≤◌}
-use mathlib.Core.Path.{sym, ap, ◌∙◌, subst}
+use mathlib.Core.Path.{sym, subst}
 use native.Mathlib.Omega.{arith}
-use borrow.Author.Rules.{rules}
 use lib.Dec.{T}
 use lib.ListN.{length}
-use Rattle.lexical_util.specs.Answer.{of_written}
 use Rattle.outage_table.specs.Text.{text_of}
-use Rattle.outage_table.proofs.TextLaws.{text_short, text_counted, text_served}
+use Rattle.outage_table.proofs.TextLaws.{text_short, text_served}
 use Rattle.lexical_write_float_spec.specs.Write.{longest_text}
 use Rattle.outage_table.proofs.print.text_length.Goals.{Start}
 use Rattle.outage_table.proofs.print.text_length.Goals as goal

@@ -1,14 +1,8 @@
 -- `outage_table::table::check_rows` meets its contract. The loop's invariant: what is said of the rows left is said of all. Assumes nothing.
 use Prim.Native.Nat.{◌-◌, ◌≤◌}
-use mathlib.Core.Path.{◌≡◌, sym, ap, ◌∙◌, subst}
-use native.Mathlib.Omega.{arith}
-use borrow.Author.Rules.{rules}
-use Rattle.outage.specs.Answer.{of_checked_window}
 use Rattle.outage_spec.specs.Table.{rows_from}
 use Rattle.outage_table.specs.declared.table.Rows.{Rows}
-use Rattle.outage_table.specs.declared.table.Rows.TheVariants.{Passed, Refused}
 use Rattle.outage_table.specs.Count.{AreRows}
-use Rattle.outage_table.proofs.RowsLaws.{rows_more, rows_stop, rows_end, checked_more}
 use Rattle.outage_table.proofs.table.check_rows.Given as goal
 
 abbrev pub invariant-loop-i : goal.invariant-loop-i

@@ -1,6 +1,5 @@
 -- `outage_table::table::table_count` meets its contract: the checks of the header in their order. Assumes nothing.
 use native.Mathlib.Omega.{arith}
-use borrow.Author.Rules.{rules}
 use Rattle.outage_table.proofs.TableLaws.{count_short, count_many, count_field, count_lent, count_is}
 use Rattle.outage_table.proofs.table.table_count.Goals as goal
 

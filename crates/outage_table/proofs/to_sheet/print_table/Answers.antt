@@ -1,12 +1,11 @@
 -- `outage_table::to_sheet::print_table` meets its contract: 13, the first refusal of a row, or the sheet of the rows, which are all contents. Assumes nothing.
-use mathlib.Core.Path.{◌≡◌, refl, sym, ap, ◌∙◌, subst}
+use mathlib.Core.Path.{◌≡◌, sym, subst}
 use mathlib.Core.List.{List}
-use borrow.Author.Rules.{rules}
 use Rattle.lexical_util.specs.Answer.{Answer, done}
 use Rattle.outage_spec.specs.declared.window.Window.{Window}
 use Rattle.outage_spec.specs.Table.{table_count, rows_from}
 use Rattle.outage_table.specs.declared.table.Rows.{Rows}
-use Rattle.outage_table.specs.Count.{of_count, AreRows}
+use Rattle.outage_table.specs.Count.{AreRows}
 use Rattle.outage_table.specs.Text.{contents}
 use Rattle.outage_spec.proofs.TableLaws.{header}
 use Rattle.outage_table.proofs.SheetLaws.{windows_sheet, windows_wrong, windows_refused}

@@ -1,13 +1,8 @@
 -- `outage_table::to_sheet::put_rows` meets its contract. The loop's invariant: once the rows left are put, all are. Assumes nothing.
-use Prim.Native.Nat.{◌+◌, ◌-◌, ◌≤◌}
-use mathlib.Core.Path.{◌≡◌, sym, ap, ◌∙◌}
-use native.Mathlib.Omega.{arith}
-use borrow.Author.Rules.{rules}
-use Rattle.lexical_util.specs.Answer.{done}
-use Rattle.outage.specs.Answer.{of_checked_window}
-use Rattle.outage_spec.specs.Table.{row_at, rows_from}
+use Prim.Native.Nat.{◌-◌, ◌≤◌}
+use Rattle.outage_spec.specs.Table.{rows_from}
 use Rattle.outage_table.specs.Text.{contents}
-use Rattle.outage_table.proofs.RowsLaws.{row_texts, rows_more, rows_stop, rows_end, Going, going_start, going_dead, going_room, going_more, going_end}
+use Rattle.outage_table.proofs.RowsLaws.{Going}
 use Rattle.outage_table.proofs.to_sheet.put_rows.Given as goal
 
 abbrev pub invariant-loop-row : goal.invariant-loop-row

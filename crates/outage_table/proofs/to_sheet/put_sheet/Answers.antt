@@ -1,14 +1,12 @@
 -- `outage_table::to_sheet::put_sheet` meets its contract: where count line and rows have room they are put one behind the other. Assumes nothing.
 use Prim.Native.Nat.{◌+◌, ◌≤◌}
 use mathlib.Core.Path.{sym, ◌∙◌}
-use native.Mathlib.Omega.{arith}
-use borrow.Author.Rules.{rules}
-use borrow.Author.Tests.{leb-true, leb-false}
+use borrow.Author.Tests.{leb-true}
 use lib.ListN.{length}
 use Rattle.lexical_write_integer_spec.specs.Digits.{numeral}
 use Rattle.outage_spec.specs.Table.{rows_from}
 use Rattle.outage_table.specs.Text.{contents, rows_of}
-use Rattle.outage_table.proofs.SheetLaws.{sheet_short, sheet_put, rows_place}
+use Rattle.outage_table.proofs.SheetLaws.{sheet_put}
 use Rattle.outage_table.proofs.to_sheet.put_sheet.Goals.{Then-sheet_has_room}
 use Rattle.outage_table.proofs.to_sheet.put_sheet.Goals as goal
 

@@ -1,14 +1,12 @@
 -- `outage_table::to_sheet::sheet_has_room` meets its contract: no row is longer than two of the longest texts, a space and an LF, and where that does not settle it they are measured. Assumes nothing.
 use Prim.Native.Nat.{◌≤◌}
-use mathlib.Core.Path.{◌≡◌, sym, ap, ◌∙◌}
+use mathlib.Core.Path.{◌≡◌, ap, ◌∙◌}
 use native.Mathlib.Omega.{arith}
-use borrow.Author.Rules.{rules}
 use lib.ListN.{length}
 use Rattle.lexical_util.specs.Answer.{of_written}
-use Rattle.lexical_util.proofs.AnswerLaws.{refused_done}
 use Rattle.lexical_write_integer_spec.specs.Digits.{numeral}
 use Rattle.outage_spec.specs.Table.{rows_from}
-use Rattle.outage_table.proofs.SheetLaws.{count_digits, room_known, length_found, length_refused}
+use Rattle.outage_table.proofs.SheetLaws.{count_digits, room_known, length_found}
 use Rattle.outage_table.proofs.to_sheet.sheet_has_room.Goals.{After-digit_count}
 use Rattle.outage_table.proofs.to_sheet.sheet_has_room.Goals as goal
 

@@ -1,7 +1,5 @@
 -- `outage_table::to_sheet::table_to_sheet` meets its contract: the check's refusal, or what the table is asked for. Assumes nothing.
-use mathlib.Core.Path.{refl, sym, ap, ◌∙◌}
-use borrow.Author.Rules.{rules}
-use Rattle.lexical_format.specs.Format.{of_writing_check}
+use mathlib.Core.Path.{refl}
 use Rattle.outage_spec.proofs.WordLaws.{AreBytes, all_bytes}
 use Rattle.outage_table.specs.Text.{Admitted}
 use Rattle.outage_table.proofs.SheetLaws.{settled_row, settled_refused, sheet_passed, sheet_refused, meets}

@@ -1,9 +1,7 @@
 -- `outage_table::word::word_at` meets its contract. The loop's invariant: the number so far is that of the bytes from `left` on, and so small. Assumes nothing.
-use Prim.Native.Nat.{◌+◌, ◌-◌, ◌^◌, ◌≤◌, ◌<◌}
+use Prim.Native.Nat.{◌+◌, ◌-◌}
 use mathlib.Core.Path.{◌≡◌}
 use native.Mathlib.Omega.{arith}
-use lib.ListN.{take, drop}
-use Rattle.outage_spec.specs.Words.{of_bytes}
 use Rattle.outage_spec.proofs.WordLaws.{read_start, read_more, read_small, read_grows}
 use Rattle.outage_table.proofs.word.word_at.Goals as goal
 
