@@ -2,6 +2,7 @@
 use crate::print;
 use lexical_exponent::Magnitude;
 use lexical_float::Parts;
+use std::io;
 
 // The float with these bits, any NaN where they are a NaN's.
 pub(crate) fn f64_of(bits: u64) -> f64 {
@@ -18,88 +19,88 @@ pub(crate) fn f32_of(bits: u32) -> f32 {
     f32::from_bits(bits)
 }
 
-fn print_magnitude(value: Magnitude) {
-    print::number(value.mantissa);
-    print::text(b" * 2^");
-    print::signed(value.exponent.0);
+fn print_magnitude(rt: &impl Print, value: Magnitude) -> io::Result<()> {
+    print::number(rt, value.mantissa)?;
+    print::text(rt, b" * 2^")?;
+    print::signed(rt, value.exponent.0)
 }
 
 // s, and the parts: `s <s>, <sign><mantissa> * 2^<exponent>`.
-fn finite_line(negative: bool, value: Magnitude) {
-    print::text(b"s ");
-    print::signed(lexical_exponent::sci_exp(value).0);
-    print::text(b", ");
+fn finite_line(rt: &impl Print, negative: bool, value: Magnitude) -> io::Result<()> {
+    print::text(rt, b"s ")?;
+    print::signed(rt, lexical_exponent::sci_exp(value).0)?;
+    print::text(rt, b", ")?;
     if negative {
-        print::text(b"-");
+        print::text(rt, b"-")?;
     }
-    print_magnitude(value);
-    print::text(b"\n");
+    print_magnitude(rt, value)?;
+    print::text(rt, b"\n")
 }
 
-fn print_parts(parts: Parts) {
+fn print_parts(rt: &impl Print, parts: Parts) -> io::Result<()> {
     match parts {
-        Parts::Special => print::text(b"special\n"),
-        Parts::Finite(negative, value) => finite_line(negative, value),
+        Parts::Special => print::text(rt, b"special\n"),
+        Parts::Finite(negative, value) => finite_line(rt, negative, value),
     }
 }
 
 // `<width> <bits>: s <s>, <sign><mantissa> * 2^<exponent>`, or `<width> <bits>: special`.
-fn f64_line(bits: u64) {
-    print::text(b"f64 ");
-    print::hex(bits);
-    print::text(b": ");
-    print_parts(lexical_float::parts_f64(f64_of(bits)));
+fn f64_line(rt: &impl Print, bits: u64) -> io::Result<()> {
+    print::text(rt, b"f64 ")?;
+    print::hex(rt, bits)?;
+    print::text(rt, b": ")?;
+    print_parts(rt, lexical_float::parts_f64(f64_of(bits)))
 }
 
-fn f32_line(bits: u32) {
-    print::text(b"f32 ");
-    print::hex(bits as u64);
-    print::text(b": ");
-    print_parts(lexical_float::parts_f32(f32_of(bits)));
+fn f32_line(rt: &impl Print, bits: u32) -> io::Result<()> {
+    print::text(rt, b"f32 ")?;
+    print::hex(rt, bits as u64)?;
+    print::text(rt, b": ")?;
+    print_parts(rt, lexical_float::parts_f32(f32_of(bits)))
 }
 
 // 0, least denormal, largest denormal, least normal, 1, largest, infinities, NaN, -0, -1, and some between.
-fn f64_edges() {
-    f64_line(0);
-    f64_line(1);
-    f64_line(0x000f_ffff_ffff_ffff);
-    f64_line(0x0010_0000_0000_0000);
-    f64_line(0x3ff0_0000_0000_0000);
-    f64_line(0x3ff8_0000_0000_0000);
-    f64_line(0x400f_ffff_ffff_ffff);
-    f64_line(0x7fef_ffff_ffff_ffff);
-    f64_line(0x7ff0_0000_0000_0000);
-    f64_line(0xfff0_0000_0000_0000);
-    f64_line(0x7ff0_0000_0000_0001);
-    f64_line(0x7ff8_0000_0000_0000);
-    f64_line(0xffff_ffff_ffff_ffff);
-    f64_line(0x8000_0000_0000_0000);
-    f64_line(0x8000_0000_0000_0001);
-    f64_line(0xbff0_0000_0000_0000);
-    f64_line(0xffef_ffff_ffff_ffff);
+fn f64_edges(rt: &impl Print) -> io::Result<()> {
+    f64_line(rt, 0)?;
+    f64_line(rt, 1)?;
+    f64_line(rt, 0x000f_ffff_ffff_ffff)?;
+    f64_line(rt, 0x0010_0000_0000_0000)?;
+    f64_line(rt, 0x3ff0_0000_0000_0000)?;
+    f64_line(rt, 0x3ff8_0000_0000_0000)?;
+    f64_line(rt, 0x400f_ffff_ffff_ffff)?;
+    f64_line(rt, 0x7fef_ffff_ffff_ffff)?;
+    f64_line(rt, 0x7ff0_0000_0000_0000)?;
+    f64_line(rt, 0xfff0_0000_0000_0000)?;
+    f64_line(rt, 0x7ff0_0000_0000_0001)?;
+    f64_line(rt, 0x7ff8_0000_0000_0000)?;
+    f64_line(rt, 0xffff_ffff_ffff_ffff)?;
+    f64_line(rt, 0x8000_0000_0000_0000)?;
+    f64_line(rt, 0x8000_0000_0000_0001)?;
+    f64_line(rt, 0xbff0_0000_0000_0000)?;
+    f64_line(rt, 0xffef_ffff_ffff_ffff)
 }
 
-fn f32_edges() {
-    f32_line(0);
-    f32_line(1);
-    f32_line(0x007f_ffff);
-    f32_line(0x0080_0000);
-    f32_line(0x3f80_0000);
-    f32_line(0x3fc0_0000);
-    f32_line(0x407f_ffff);
-    f32_line(0x7f7f_ffff);
-    f32_line(0x7f80_0000);
-    f32_line(0xff80_0000);
-    f32_line(0x7f80_0001);
-    f32_line(0x7fc0_0000);
-    f32_line(0xffff_ffff);
-    f32_line(0x8000_0000);
-    f32_line(0x8000_0001);
-    f32_line(0xbf80_0000);
-    f32_line(0xff7f_ffff);
+fn f32_edges(rt: &impl Print) -> io::Result<()> {
+    f32_line(rt, 0)?;
+    f32_line(rt, 1)?;
+    f32_line(rt, 0x007f_ffff)?;
+    f32_line(rt, 0x0080_0000)?;
+    f32_line(rt, 0x3f80_0000)?;
+    f32_line(rt, 0x3fc0_0000)?;
+    f32_line(rt, 0x407f_ffff)?;
+    f32_line(rt, 0x7f7f_ffff)?;
+    f32_line(rt, 0x7f80_0000)?;
+    f32_line(rt, 0xff80_0000)?;
+    f32_line(rt, 0x7f80_0001)?;
+    f32_line(rt, 0x7fc0_0000)?;
+    f32_line(rt, 0xffff_ffff)?;
+    f32_line(rt, 0x8000_0000)?;
+    f32_line(rt, 0x8000_0001)?;
+    f32_line(rt, 0xbf80_0000)?;
+    f32_line(rt, 0xff7f_ffff)
 }
 
-pub(crate) fn run() {
-    f64_edges();
-    f32_edges();
+pub(crate) fn run(rt: &impl Print) -> io::Result<()> {
+    f64_edges(rt)?;
+    f32_edges(rt)
 }

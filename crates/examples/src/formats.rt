@@ -3,6 +3,7 @@ use crate::print;
 use lexical_format::{
     NumberFormat, Options, ReadingCheck, RoundMode, WritingCheck, check, check_reading,
 };
+use std::io;
 
 // 16/2/10 without flags.
 pub(crate) fn format() -> NumberFormat {
@@ -32,248 +33,248 @@ pub(crate) fn options() -> Options {
     }
 }
 
-fn print_bits(b: u32, c: u32) {
-    print::text(b"b ");
-    print::number(b as u64);
-    print::text(b" c ");
-    print::number(c as u64);
+fn print_bits(rt: &impl Print, b: u32, c: u32) -> io::Result<()> {
+    print::text(rt, b"b ")?;
+    print::number(rt, b as u64)?;
+    print::text(rt, b" c ")?;
+    print::number(rt, c as u64)
 }
 
-fn print_writing(answer: WritingCheck) {
+fn print_writing(rt: &impl Print, answer: WritingCheck) -> io::Result<()> {
     match answer {
-        WritingCheck::Refused(r) => print::refusal(r),
+        WritingCheck::Refused(r) => print::refusal(rt, r),
         WritingCheck::Passed(f) => {
-            print_bits(f.b, f.c);
-            print::text(b" breaks ");
-            print::signed(f.negative_exponent_break.0);
-            print::text(b" ");
-            print::signed(f.positive_exponent_break.0);
+            print_bits(rt, f.b, f.c)?;
+            print::text(rt, b" breaks ")?;
+            print::signed(rt, f.negative_exponent_break.0)?;
+            print::text(rt, b" ")?;
+            print::signed(rt, f.positive_exponent_break.0)
         }
     }
 }
 
-fn print_reading(answer: ReadingCheck) {
+fn print_reading(rt: &impl Print, answer: ReadingCheck) -> io::Result<()> {
     match answer {
-        ReadingCheck::Refused(r) => print::refusal(r),
-        ReadingCheck::Passed(row) => print_bits(row.b, row.c),
+        ReadingCheck::Refused(r) => print::refusal(rt, r),
+        ReadingCheck::Passed(row) => print_bits(rt, row.b, row.c),
     }
 }
 
 // `: write <answer>, read <answer>`
-fn answers(f: NumberFormat, o: Options) {
-    print::text(b": write ");
-    print_writing(check(f, o));
-    print::text(b", read ");
-    print_reading(check_reading(f, o));
-    print::text(b"\n");
+fn answers(rt: &impl Print, f: NumberFormat, o: Options) -> io::Result<()> {
+    print::text(rt, b": write ")?;
+    print_writing(rt, check(f, o))?;
+    print::text(rt, b", read ")?;
+    print_reading(rt, check_reading(f, o))?;
+    print::text(rt, b"\n")
 }
 
-fn pair_line(radix: u32, base: u32) {
+fn pair_line(rt: &impl Print, radix: u32, base: u32) -> io::Result<()> {
     let mut f = format();
     f.mantissa_radix = radix;
     f.exponent_base = base;
-    print::text(b"pair ");
-    print::number(radix as u64);
-    print::text(b"/");
-    print::number(base as u64);
-    answers(f, options());
+    print::text(rt, b"pair ")?;
+    print::number(rt, radix as u64)?;
+    print::text(rt, b"/")?;
+    print::number(rt, base as u64)?;
+    answers(rt, f, options())
 }
 
-fn exponent_radix_line(radix: u32) {
+fn exponent_radix_line(rt: &impl Print, radix: u32) -> io::Result<()> {
     let mut f = format();
     f.exponent_radix = radix;
-    print::text(b"exponent radix ");
-    print::number(radix as u64);
-    answers(f, options());
+    print::text(rt, b"exponent radix ")?;
+    print::number(rt, radix as u64)?;
+    answers(rt, f, options())
 }
 
-fn bytes_line(radix: u32, point: u8, mark: u8) {
+fn bytes_line(rt: &impl Print, radix: u32, point: u8, mark: u8) -> io::Result<()> {
     let mut f = format();
     f.mantissa_radix = radix;
     f.exponent_base = radix;
     let mut o = options();
     o.decimal_point = point;
     o.exponent = mark;
-    print::text(b"radix ");
-    print::number(radix as u64);
-    print::text(b" point ");
-    print::number(point as u64);
-    print::text(b" mark ");
-    print::number(mark as u64);
-    answers(f, o);
+    print::text(rt, b"radix ")?;
+    print::number(rt, radix as u64)?;
+    print::text(rt, b" point ")?;
+    print::number(rt, point as u64)?;
+    print::text(rt, b" mark ")?;
+    print::number(rt, mark as u64)?;
+    answers(rt, f, o)
 }
 
-fn notation_line(required: bool, forbidden: bool) {
+fn notation_line(rt: &impl Print, required: bool, forbidden: bool) -> io::Result<()> {
     let mut f = format();
     f.required_exponent_notation = required;
     f.no_exponent_notation = forbidden;
-    print::text(b"required ");
-    print::number(required as u64);
-    print::text(b" forbidden ");
-    print::number(forbidden as u64);
-    answers(f, options());
+    print::text(rt, b"required ")?;
+    print::number(rt, required as u64)?;
+    print::text(rt, b" forbidden ")?;
+    print::number(rt, forbidden as u64)?;
+    answers(rt, f, options())
 }
 
-fn counts_line(least: u32, most: u32) {
+fn counts_line(rt: &impl Print, least: u32, most: u32) -> io::Result<()> {
     let mut o = options();
     o.min_significant_digits = least;
     o.max_significant_digits = most;
-    print::text(b"least ");
-    print::number(least as u64);
-    print::text(b" most ");
-    print::number(most as u64);
-    answers(format(), o);
+    print::text(rt, b"least ")?;
+    print::number(rt, least as u64)?;
+    print::text(rt, b" most ")?;
+    print::number(rt, most as u64)?;
+    answers(rt, format(), o)
 }
 
-fn breaks_line(low: i32, high: i32) {
+fn breaks_line(rt: &impl Print, low: i32, high: i32) -> io::Result<()> {
     let mut o = options();
     o.negative_exponent_break = low;
     o.positive_exponent_break = high;
-    print::text(b"low ");
-    print::signed(low);
-    print::text(b" high ");
-    print::signed(high);
-    answers(format(), o);
+    print::text(rt, b"low ")?;
+    print::signed(rt, low)?;
+    print::text(rt, b" high ")?;
+    print::signed(rt, high)?;
+    answers(rt, format(), o)
 }
 
-fn width_line(width: u32) {
+fn width_line(rt: &impl Print, width: u32) -> io::Result<()> {
     let mut o = options();
     o.exponent_width = width;
-    print::text(b"width ");
-    print::number(width as u64);
-    answers(format(), o);
+    print::text(rt, b"width ")?;
+    print::number(rt, width as u64)?;
+    answers(rt, format(), o)
 }
 
-fn each_base(radix: u32) {
-    pair_line(radix, 0);
-    pair_line(radix, 2);
-    pair_line(radix, 4);
-    pair_line(radix, 8);
-    pair_line(radix, 10);
-    pair_line(radix, 16);
-    pair_line(radix, 32);
+fn each_base(rt: &impl Print, radix: u32) -> io::Result<()> {
+    pair_line(rt, radix, 0)?;
+    pair_line(rt, radix, 2)?;
+    pair_line(rt, radix, 4)?;
+    pair_line(rt, radix, 8)?;
+    pair_line(rt, radix, 10)?;
+    pair_line(rt, radix, 16)?;
+    pair_line(rt, radix, 32)
 }
 
-fn pairs() {
-    each_base(0);
-    each_base(2);
-    each_base(4);
-    each_base(8);
-    each_base(10);
-    each_base(16);
-    each_base(32);
-    each_base(64);
-    each_base(4294967295);
+fn pairs(rt: &impl Print) -> io::Result<()> {
+    each_base(rt, 0)?;
+    each_base(rt, 2)?;
+    each_base(rt, 4)?;
+    each_base(rt, 8)?;
+    each_base(rt, 10)?;
+    each_base(rt, 16)?;
+    each_base(rt, 32)?;
+    each_base(rt, 64)?;
+    each_base(rt, 4294967295)
 }
 
-fn exponent_radices() {
-    exponent_radix_line(0);
-    exponent_radix_line(1);
-    exponent_radix_line(2);
-    exponent_radix_line(3);
-    exponent_radix_line(4);
-    exponent_radix_line(8);
-    exponent_radix_line(10);
-    exponent_radix_line(16);
-    exponent_radix_line(32);
-    exponent_radix_line(36);
-    exponent_radix_line(4294967295);
+fn exponent_radices(rt: &impl Print) -> io::Result<()> {
+    exponent_radix_line(rt, 0)?;
+    exponent_radix_line(rt, 1)?;
+    exponent_radix_line(rt, 2)?;
+    exponent_radix_line(rt, 3)?;
+    exponent_radix_line(rt, 4)?;
+    exponent_radix_line(rt, 8)?;
+    exponent_radix_line(rt, 10)?;
+    exponent_radix_line(rt, 16)?;
+    exponent_radix_line(rt, 32)?;
+    exponent_radix_line(rt, 36)?;
+    exponent_radix_line(rt, 4294967295)
 }
 
-fn bytes() {
-    bytes_line(16, 0, b'^');
-    bytes_line(16, b'.', 0);
-    bytes_line(16, 255, b'^');
-    bytes_line(16, b'.', 255);
-    bytes_line(16, 32, b'^');
-    bytes_line(16, 33, b'^');
-    bytes_line(16, b'.', 126);
-    bytes_line(16, b'.', 127);
-    bytes_line(16, b'^', b'^');
-    bytes_line(16, b'+', b'^');
-    bytes_line(16, b'.', b'-');
-    bytes_line(2, b'.', b'1');
-    bytes_line(2, b'.', b'2');
-    bytes_line(8, b'.', b'7');
-    bytes_line(8, b'8', b'^');
-    bytes_line(16, b'.', b'F');
-    bytes_line(16, b'.', b'G');
-    bytes_line(16, b'.', b'e');
-    bytes_line(32, b'.', b'V');
-    bytes_line(32, b'W', b'p');
+fn bytes(rt: &impl Print) -> io::Result<()> {
+    bytes_line(rt, 16, 0, b'^')?;
+    bytes_line(rt, 16, b'.', 0)?;
+    bytes_line(rt, 16, 255, b'^')?;
+    bytes_line(rt, 16, b'.', 255)?;
+    bytes_line(rt, 16, 32, b'^')?;
+    bytes_line(rt, 16, 33, b'^')?;
+    bytes_line(rt, 16, b'.', 126)?;
+    bytes_line(rt, 16, b'.', 127)?;
+    bytes_line(rt, 16, b'^', b'^')?;
+    bytes_line(rt, 16, b'+', b'^')?;
+    bytes_line(rt, 16, b'.', b'-')?;
+    bytes_line(rt, 2, b'.', b'1')?;
+    bytes_line(rt, 2, b'.', b'2')?;
+    bytes_line(rt, 8, b'.', b'7')?;
+    bytes_line(rt, 8, b'8', b'^')?;
+    bytes_line(rt, 16, b'.', b'F')?;
+    bytes_line(rt, 16, b'.', b'G')?;
+    bytes_line(rt, 16, b'.', b'e')?;
+    bytes_line(rt, 32, b'.', b'V')?;
+    bytes_line(rt, 32, b'W', b'p')
 }
 
-fn counts() {
-    counts_line(1200, 0);
-    counts_line(1201, 0);
-    counts_line(0, 1200);
-    counts_line(0, 1201);
-    counts_line(1200, 1200);
-    counts_line(5, 4);
-    counts_line(5, 5);
-    counts_line(1, 0);
-    counts_line(4294967295, 4294967295);
+fn counts(rt: &impl Print) -> io::Result<()> {
+    counts_line(rt, 1200, 0)?;
+    counts_line(rt, 1201, 0)?;
+    counts_line(rt, 0, 1200)?;
+    counts_line(rt, 0, 1201)?;
+    counts_line(rt, 1200, 1200)?;
+    counts_line(rt, 5, 4)?;
+    counts_line(rt, 5, 5)?;
+    counts_line(rt, 1, 0)?;
+    counts_line(rt, 4294967295, 4294967295)
 }
 
-fn breaks() {
-    breaks_line(-2001, 0);
-    breaks_line(-2000, 0);
-    breaks_line(-1, 0);
-    breaks_line(1, 0);
-    breaks_line(0, 1);
-    breaks_line(0, 2000);
-    breaks_line(0, 2001);
-    breaks_line(0, -1);
-    breaks_line(-6, 10);
-    breaks_line(-2147483648, 2147483647);
+fn breaks(rt: &impl Print) -> io::Result<()> {
+    breaks_line(rt, -2001, 0)?;
+    breaks_line(rt, -2000, 0)?;
+    breaks_line(rt, -1, 0)?;
+    breaks_line(rt, 1, 0)?;
+    breaks_line(rt, 0, 1)?;
+    breaks_line(rt, 0, 2000)?;
+    breaks_line(rt, 0, 2001)?;
+    breaks_line(rt, 0, -1)?;
+    breaks_line(rt, -6, 10)?;
+    breaks_line(rt, -2147483648, 2147483647)
 }
 
-fn widths() {
-    width_line(0);
-    width_line(1);
-    width_line(4);
-    width_line(5);
-    width_line(4294967295);
+fn widths(rt: &impl Print) -> io::Result<()> {
+    width_line(rt, 0)?;
+    width_line(rt, 1)?;
+    width_line(rt, 4)?;
+    width_line(rt, 5)?;
+    width_line(rt, 4294967295)
 }
 
 // The first of several refusals is the answer.
-fn order() {
+fn order(rt: &impl Print) -> io::Result<()> {
     let mut f = format();
     let mut o = options();
     o.exponent_width = 0;
-    print::text(b"16");
-    answers(f, o);
+    print::text(rt, b"16")?;
+    answers(rt, f, o)?;
     o.positive_exponent_break = -1;
-    print::text(b"6, 16");
-    answers(f, o);
+    print::text(rt, b"6, 16")?;
+    answers(rt, f, o)?;
     o.min_significant_digits = 1201;
-    print::text(b"5, 6, 16");
-    answers(f, o);
+    print::text(rt, b"5, 6, 16")?;
+    answers(rt, f, o)?;
     f.required_exponent_notation = true;
     f.no_exponent_notation = true;
-    print::text(b"4, 5, 6, 16");
-    answers(f, o);
+    print::text(rt, b"4, 5, 6, 16")?;
+    answers(rt, f, o)?;
     o.exponent = b'.';
-    print::text(b"3, 4, 5, 6, 16");
-    answers(f, o);
+    print::text(rt, b"3, 4, 5, 6, 16")?;
+    answers(rt, f, o)?;
     f.exponent_radix = 3;
-    print::text(b"2, 3, 4, 5, 6, 16");
-    answers(f, o);
+    print::text(rt, b"2, 3, 4, 5, 6, 16")?;
+    answers(rt, f, o)?;
     f.exponent_base = 3;
-    print::text(b"1, 2, 3, 4, 5, 6, 16");
-    answers(f, o);
+    print::text(rt, b"1, 2, 3, 4, 5, 6, 16")?;
+    answers(rt, f, o)
 }
 
-pub(crate) fn run() {
-    pairs();
-    exponent_radices();
-    bytes();
-    notation_line(false, false);
-    notation_line(true, false);
-    notation_line(false, true);
-    notation_line(true, true);
-    counts();
-    breaks();
-    widths();
-    order();
+pub(crate) fn run(rt: &impl Print) -> io::Result<()> {
+    pairs(rt)?;
+    exponent_radices(rt)?;
+    bytes(rt)?;
+    notation_line(rt, false, false)?;
+    notation_line(rt, true, false)?;
+    notation_line(rt, false, true)?;
+    notation_line(rt, true, true)?;
+    counts(rt)?;
+    breaks(rt)?;
+    widths(rt)?;
+    order(rt)
 }

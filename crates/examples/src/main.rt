@@ -10,12 +10,14 @@ mod print;
 mod steps;
 mod texts;
 
-fn main() {
-    digits::run();
-    steps::run();
-    floats::run();
-    order::run();
-    exponents::run();
-    formats::run();
-    texts::run();
+use std::io;
+
+fn main(rt: HostRuntime) -> io::Result<()> {
+    digits::run(&rt)?;
+    steps::run(&rt)?;
+    floats::run(&rt)?;
+    order::run(&rt)?;
+    exponents::run(&rt)?;
+    formats::run(&rt)?;
+    texts::run(&rt)
 }

@@ -1,14 +1,14 @@
 // Reads a table from standard input and writes it packed, or the refusal.
 #![tactic(auto)]
 
-use libc::{STDIN_FILENO, STDOUT_FILENO};
 use outage::LONGEST_TABLE;
+use std::io;
 
-fn main() {
+fn main(rt: HostRuntime) -> io::Result<()> {
     // The longest table, and one byte more, so that a longer input is seen.
     let mut table = [0u8; LONGEST_TABLE + 1];
-    let n = io::read_full(STDIN_FILENO, &mut table);
+    let n = outage_console::read_full(&mut rt.stdin(), &mut table)?;
     let mut out = [0u8; LONGEST_TABLE];
     let shown = outage_console::pack_table(&table[0..n], &mut out);
-    io::write_all(STDOUT_FILENO, &out[0..shown]);
+    rt.write_all(&out[0..shown])
 }

@@ -1,48 +1,61 @@
 // Reads a sheet in a format from standard input and writes its table, or the refusal.
 #![tactic(auto)]
 
-ghost use Rattle.std.specs.Prelude.{◌≤◌, length};
+ghost use Rattle.std.specs.Prelude.{◌≤◌, IfOk, length};
 
 use lexical_rewrite_spec::TextFormat;
-use libc::{STDERR_FILENO, STDIN_FILENO, STDOUT_FILENO};
 use outage_console::{Argument, LONGEST_SHEET_READ, read_format};
+use std::env::{Env, FillError};
+use std::io;
 
 // The longest sheet that is read, and one byte more, so that a longer input is seen.
 const ROOM: usize = LONGEST_SHEET_READ + 1;
 
+// Bytes for an argument. No format's name is as long, so a longer argument names none.
+const ARGUMENT_ROOM: usize = 4096;
+
 // All of standard input, as far as there is room.
-fn read(sheet: &mut [u8; ROOM]) -> usize
-    ensures { result ≤ length sheet.new }
+fn read(rt: &HostRuntime, sheet: &mut [u8; ROOM]) -> io::Result<usize>
+    ensures { IfOk result (λ n. n ≤ length sheet.new) }
 {
-    io::read_full(STDIN_FILENO, sheet)
+    outage_console::read_full(&mut rt.stdin(), sheet)
 }
 
-fn run(format: TextFormat) {
+fn run(rt: &HostRuntime, format: TextFormat) -> io::Result<()> {
     let mut sheet = [0u8; ROOM];
-    let n = read(&mut sheet);
+    let n = read(rt, &mut sheet)?;
     let mut out = [0u8; outage::LONGEST_TABLE];
     let shown = outage_console::read_sheet(&sheet[0..n], format, &mut out);
-    io::write_all(STDOUT_FILENO, &out[0..shown]);
+    rt.write_all(&out[0..shown])
 }
 
-fn usage() {
-    io::write_all(
-        STDERR_FILENO,
-        b"usage: read_sheet FORMAT < sheet > table\n\
+fn usage(rt: &impl Eprint) -> io::Result<()> {
+    rt.eprint(
+        "usage: read_sheet FORMAT < sheet > table\n\
 FORMAT is RADIX/BASE/EXPONENT-RADIX, as 16/2/10, with radix/base one of\n\
 2/2 4/4 8/8 16/16 32/32 4/2 8/2 16/2 32/2 16/4 and exponent radix 2, 4, 8, 10, 16 or 32\n",
-    );
+    )
 }
 
-fn main() {
-    if os::arg_count() != 2 {
-        usage();
-        return;
+// Whether argument i is there. Argument 0 is the program's own name.
+fn is_given(rt: &impl Env, i: usize) -> bool {
+    !matches!(rt.arg(i, &mut []), Err(FillError::NotPresent))
+}
+
+fn argument(rt: &impl Env, i: usize) -> Argument {
+    let mut text = [0u8; ARGUMENT_ROOM];
+    match rt.arg(i, &mut text) {
+        Ok(n) => read_format(&text[0..n]),
+        Err(_) => Argument::Unknown,
     }
-    let mut text = io::buffer();
-    let n = os::arg(1, &mut text);
-    match read_format(&text[0..n]) {
-        Argument::Format(format) => run(format),
-        Argument::Unknown => usage(),
+}
+
+fn main(rt: HostRuntime) -> io::Result<()> {
+    if !is_given(&rt, 1) || is_given(&rt, 2) {
+        return usage(&rt);
+    }
+    match argument(&rt, 1) {
+        Argument::Format(format) => run(&rt, format),
+        Argument::Unknown => usage(&rt),
     }
 }

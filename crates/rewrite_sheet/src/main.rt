@@ -1,57 +1,64 @@
 // Reads a sheet in one format from standard input and writes the same rows in another, or the refusal.
 #![tactic(auto)]
 
-ghost use Rattle.std.specs.Prelude.{◌≤◌, length};
+ghost use Rattle.std.specs.Prelude.{◌≤◌, IfOk, length};
 
 use lexical_rewrite_spec::TextFormat;
-use libc::{STDERR_FILENO, STDIN_FILENO, STDOUT_FILENO};
 use outage_console::{Argument, LONGEST_SHEET_READ, read_format};
+use std::env::{Env, FillError};
+use std::io;
 
 // The longest sheet that is read, and one byte more, so that a longer input is seen.
 const ROOM: usize = LONGEST_SHEET_READ + 1;
 
+// Bytes for an argument. No format's name is as long, so a longer argument names none.
+const ARGUMENT_ROOM: usize = 4096;
+
 // All of standard input, as far as there is room.
-fn read(sheet: &mut [u8; ROOM]) -> usize
-    ensures { result ≤ length sheet.new }
+fn read(rt: &HostRuntime, sheet: &mut [u8; ROOM]) -> io::Result<usize>
+    ensures { IfOk result (λ n. n ≤ length sheet.new) }
 {
-    io::read_full(STDIN_FILENO, sheet)
+    outage_console::read_full(&mut rt.stdin(), sheet)
 }
 
-fn run(from: TextFormat, to: TextFormat) {
+fn run(rt: &HostRuntime, from: TextFormat, to: TextFormat) -> io::Result<()> {
     let mut sheet = [0u8; ROOM];
-    let n = read(&mut sheet);
+    let n = read(rt, &mut sheet)?;
     let mut out = [0u8; outage_table::LONGEST_SHEET];
     let shown = outage_console::rewrite_sheet(&sheet[0..n], from, to, &mut out);
-    io::write_all(STDOUT_FILENO, &out[0..shown]);
+    rt.write_all(&out[0..shown])
 }
 
-fn usage() {
-    io::write_all(
-        STDERR_FILENO,
-        b"usage: rewrite_sheet FROM TO < sheet > sheet\n\
+fn usage(rt: &impl Eprint) -> io::Result<()> {
+    rt.eprint(
+        "usage: rewrite_sheet FROM TO < sheet > sheet\n\
 FROM and TO are RADIX/BASE/EXPONENT-RADIX, as 16/2/10, with radix/base one of\n\
 2/2 4/4 8/8 16/16 32/32 4/2 8/2 16/2 32/2 16/4 and exponent radix 2, 4, 8, 10, 16 or 32\n",
-    );
+    )
 }
 
-fn argument(i: usize) -> Argument {
-    let mut text = io::buffer();
-    let n = os::arg(i, &mut text);
-    read_format(&text[0..n])
+// Whether argument i is there. Argument 0 is the program's own name.
+fn is_given(rt: &impl Env, i: usize) -> bool {
+    !matches!(rt.arg(i, &mut []), Err(FillError::NotPresent))
 }
 
-fn main() {
-    if os::arg_count() != 3 {
-        usage();
-        return;
+fn argument(rt: &impl Env, i: usize) -> Argument {
+    let mut text = [0u8; ARGUMENT_ROOM];
+    match rt.arg(i, &mut text) {
+        Ok(n) => read_format(&text[0..n]),
+        Err(_) => Argument::Unknown,
     }
-    let Argument::Format(from) = argument(1) else {
-        usage();
-        return;
+}
+
+fn main(rt: HostRuntime) -> io::Result<()> {
+    if !is_given(&rt, 2) || is_given(&rt, 3) {
+        return usage(&rt);
+    }
+    let Argument::Format(from) = argument(&rt, 1) else {
+        return usage(&rt);
     };
-    let Argument::Format(to) = argument(2) else {
-        usage();
-        return;
+    let Argument::Format(to) = argument(&rt, 2) else {
+        return usage(&rt);
     };
-    run(from, to);
+    run(&rt, from, to)
 }

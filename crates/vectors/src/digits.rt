@@ -5,6 +5,7 @@ use crate::answer::Answer;
 use crate::tally::Verdict;
 use crate::{answer, fields, kinds, lent, numbers, print};
 use lexical_write_integer::write_integer;
+use std::io;
 
 // The places of the fields.
 const VALUE: usize = 1;
@@ -62,7 +63,7 @@ pub(crate) fn judge(input: &[u8], answer: &[u8]) -> Verdict {
     Verdict::Differs(0)
 }
 
-pub(crate) fn show(input: &[u8]) {
+pub(crate) fn show(rt: &impl Print, input: &[u8]) -> io::Result<()> {
     let mut out = space();
-    print::answer(given(input, &mut out), false);
+    print::answer(rt, given(input, &mut out), false)
 }

@@ -6,14 +6,12 @@ pub(crate) fn find(s: &[u8], byte: u8, from: usize) -> usize
     requires { from ≤ length s.now }
     ensures { (from ≤ result) × (result ≤ length s.now) }
 {
-    let mut i = from;
-    while i < s.len() {
+    for i in from..s.len() {
         if s[i] == byte {
             return i;
         }
-        i += 1;
     }
-    i
+    s.len()
 }
 
 // Where field k begins, or the length where there are fewer fields.
@@ -21,14 +19,12 @@ pub(crate) fn start_of(s: &[u8], k: usize) -> usize
     ensures { result ≤ length s.now }
 {
     let mut at = 0;
-    let mut i = 0;
-    while i < k {
+    for _ in 0..k {
         let end = find(s, b' ', at);
         if end == s.len() {
             return end;
         }
         at = end + 1;
-        i += 1;
     }
     at
 }
@@ -43,12 +39,10 @@ pub(crate) fn equal(a: &[u8], b: &[u8]) -> bool {
     if a.len() != b.len() {
         return false;
     }
-    let mut i = 0;
-    while i < a.len() {
+    for i in 0..a.len() {
         if a[i] != b[i] {
             return false;
         }
-        i += 1;
     }
     true
 }

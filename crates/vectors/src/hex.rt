@@ -22,14 +22,12 @@ fn bytes(s: &[u8], out: &mut [u8]) -> Number {
     if n == 0 || s.len() % 2 != 0 || n > out.len() {
         return Number::Malformed;
     }
-    let mut i = 0;
-    while i < n {
+    for i in 0..n {
         let value = byte_of(s[2 * i], s[2 * i + 1]);
         if value > 255 {
             return Number::Malformed;
         }
         out[i] = value as u8;
-        i += 1;
     }
     Number::Plain(n as u64)
 }

@@ -28,12 +28,10 @@ fn is_kind(s: &[u8], k: usize, kind: u8) -> bool {
 
 // Whether these are the fields, and no more.
 pub(crate) fn are_fields(kinds: &[u8], s: &[u8]) -> bool {
-    let mut k = 0;
-    while k < kinds.len() {
+    for k in 0..kinds.len() {
         if !is_kind(s, k, kinds[k]) {
             return false;
         }
-        k += 1;
     }
-    k > 0 && fields::is_last(s, k - 1)
+    kinds.len() > 0 && fields::is_last(s, kinds.len() - 1)
 }

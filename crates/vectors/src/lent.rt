@@ -6,12 +6,10 @@ pub(crate) const FILL: u8 = 7;
 
 // Whether every byte is as it was.
 pub(crate) fn is_filled(bytes: &[u8]) -> bool {
-    let mut i = 0;
-    while i < bytes.len() {
-        if bytes[i] != FILL {
+    for byte in bytes {
+        if *byte != FILL {
             return false;
         }
-        i += 1;
     }
     true
 }

@@ -1,6 +1,7 @@
 // Replays lists of cases through the compiled calls, and counts the lines whose answer they give again.
 #![tactic(auto)]
 
+ghost use Rattle.std.specs.Io.{ReadsAtMost};
 ghost use Rattle.std.specs.Prelude.{◌≡◌, length};
 
 mod answer;
@@ -20,6 +21,10 @@ mod tables;
 mod tally;
 mod writing;
 
+use std::env::{Env, FillError};
+use std::fs::{self, Files};
+use std::io::{self, Read};
+
 // A list's bytes, and one more, so that a longer list is seen.
 fn space() -> [u8; 524288]
     ensures { 524288 ≡ length result }
@@ -27,38 +32,58 @@ fn space() -> [u8; 524288]
     [0; 524288]
 }
 
-fn replay_file(name: &[u8], fd: i32) {
+// Reads until the bytes lent are full or the file ends: how many bytes it put at their front.
+fn read_full(file: &mut impl Read, bytes: &mut [u8]) -> io::Result<usize>
+    ensures { ReadsAtMost result bytes.new }
+{
+    let mut done = 0;
+    while done < bytes.len() {
+        let n = file.read(&mut bytes[done..])?;
+        if n == 0 {
+            break;
+        }
+        done += n;
+    }
+    Ok(done)
+}
+
+fn replay_file(rt: &impl Print, name: &[u8], file: &mut impl Read) -> io::Result<()> {
     let mut data = space();
-    let n = io::read_full(fd, &mut data);
+    let n = read_full(file, &mut data)?;
     if n == data.len() {
-        print::text(name);
-        print::text(b": too long\n");
-        return;
+        print::text(rt, name)?;
+        return print::text(rt, b": too long\n");
     }
-    print::tally(name, replay::list(name, &data[..n]));
+    print::tally(rt, name, replay::list(rt, name, &data[..n])?)
 }
 
-fn replay_argument(i: usize) {
-    let mut path = io::buffer();
-    let length = os::arg(i, &mut path);
-    if os::errno() != 0 {
-        os::fail(b"argument");
-        return;
+// A file that cannot be opened is told of, and left out.
+fn replay_path(rt: &(impl Files + Print + Eprint), name: &[u8]) -> io::Result<()> {
+    let Ok(path) = str::from_utf8(name) else {
+        return eprintln!(rt; "argument: not UTF-8");
+    };
+    match fs::open(rt, path) {
+        Ok(mut file) => replay_file(rt, name, &mut file),
+        Err(error) => eprintln!(rt; "{path}: {error}"),
     }
-    let fd = os::open_read(&path[..length]);
-    if fd < 0 {
-        os::fail(&path[..length]);
-        return;
-    }
-    replay_file(&path[..length], fd);
-    libc::close(fd);
 }
 
-fn main() {
-    let n = os::arg_count();
-    let mut i = 1;
-    while i < n {
-        replay_argument(i);
-        i += 1;
+// The list that argument i names: whether there is such an argument.
+fn replay_argument(rt: &(impl Env + Files + Print + Eprint), i: usize) -> io::Result<bool> {
+    let mut path = [0u8; 4096];
+    match rt.arg(i, &mut path) {
+        Ok(length) => replay_path(rt, &path[..length])?,
+        Err(FillError::TooLong) => eprintln!(rt; "argument: File name too long")?,
+        Err(FillError::NotPresent) => return Ok(false),
     }
+    Ok(true)
+}
+
+fn main(rt: HostRuntime) -> io::Result<()> {
+    for i in 1..usize::MAX {
+        if !replay_argument(&rt, i)? {
+            break;
+        }
+    }
+    Ok(())
 }

@@ -48,9 +48,8 @@ pub(crate) fn digits(s: &[u8], hex: bool) -> Number {
         return Number::Malformed;
     }
     let mut value: u64 = 0;
-    let mut i = 0;
-    while i < s.len() {
-        let digit = digit_of(s[i], hex);
+    for byte in s {
+        let digit = digit_of(*byte, hex);
         if digit == 16 {
             return Number::Malformed;
         }
@@ -58,7 +57,6 @@ pub(crate) fn digits(s: &[u8], hex: bool) -> Number {
             return Number::Malformed;
         };
         value = next;
-        i += 1;
     }
     Number::Plain(value)
 }

@@ -2,57 +2,56 @@
 use crate::answer::Answer;
 use crate::tally::Tally;
 use lexical_util::Refusal;
-use libc::STDOUT_FILENO;
+use std::io;
 
-pub(crate) fn text(s: &[u8]) {
-    io::write_all(STDOUT_FILENO, s);
+pub(crate) fn text(rt: &impl Print, s: &[u8]) -> io::Result<()> {
+    rt.write_all(s)
 }
 
-pub(crate) fn number(n: u64) {
-    io::print_decimal(STDOUT_FILENO, n);
+pub(crate) fn number(rt: &impl Print, n: u64) -> io::Result<()> {
+    print!(rt; "{n}")
 }
 
-fn refusal(r: Refusal) {
-    text(b"refused ");
-    number(r.number as u64);
-    text(b" at ");
-    number(r.place as u64);
+fn refusal(rt: &impl Print, r: Refusal) -> io::Result<()> {
+    text(rt, b"refused ")?;
+    number(rt, r.number as u64)?;
+    text(rt, b" at ")?;
+    number(rt, r.place as u64)
 }
 
-fn number_in(n: u64, hex: bool) {
+fn number_in(rt: &impl Print, n: u64, hex: bool) -> io::Result<()> {
     if hex {
-        io::print_hex(STDOUT_FILENO, n, 1);
-        return;
+        return print!(rt; "{n:x}");
     }
-    number(n);
+    number(rt, n)
 }
 
 // What a call answered, a number as a list has it.
-pub(crate) fn answer(given: Answer, hex: bool) {
+pub(crate) fn answer(rt: &impl Print, given: Answer, hex: bool) -> io::Result<()> {
     match given {
-        Answer::Number(n) => number_in(n, hex),
-        Answer::NotANumber => text(b"a NaN"),
-        Answer::Refused(r) => refusal(r),
-        Answer::Malformed => text(b"malformed"),
+        Answer::Number(n) => number_in(rt, n, hex),
+        Answer::NotANumber => text(rt, b"a NaN"),
+        Answer::Refused(r) => refusal(rt, r),
+        Answer::Malformed => text(rt, b"malformed"),
     }
 }
 
 // `<name>, line <line>: `
-pub(crate) fn place(name: &[u8], line: usize) {
-    text(name);
-    text(b", line ");
-    number(line as u64);
-    text(b": ");
+pub(crate) fn place(rt: &impl Print, name: &[u8], line: usize) -> io::Result<()> {
+    text(rt, name)?;
+    text(rt, b", line ")?;
+    number(rt, line as u64)?;
+    text(rt, b": ")
 }
 
 // `<name>: <lines> lines, <agree> agree, <malformed> malformed`
-pub(crate) fn tally(name: &[u8], t: Tally) {
-    text(name);
-    text(b": ");
-    number(t.lines as u64);
-    text(b" lines, ");
-    number(t.agree as u64);
-    text(b" agree, ");
-    number(t.malformed as u64);
-    text(b" malformed\n");
+pub(crate) fn tally(rt: &impl Print, name: &[u8], t: Tally) -> io::Result<()> {
+    text(rt, name)?;
+    text(rt, b": ")?;
+    number(rt, t.lines as u64)?;
+    text(rt, b" lines, ")?;
+    number(rt, t.agree as u64)?;
+    text(rt, b" agree, ")?;
+    number(rt, t.malformed as u64)?;
+    text(rt, b" malformed\n")
 }

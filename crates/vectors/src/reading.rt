@@ -7,6 +7,7 @@ use crate::tally::Verdict;
 use crate::{answer, fields, format, hex, kinds, numbers, print};
 use lexical_format::{NumberFormat, Options};
 use lexical_read_float::{ReadF32, ReadF64, read_f32, read_f64};
+use std::io;
 
 // The places of the fields, and the first that is none.
 const WIDTH: usize = 1;
@@ -105,6 +106,6 @@ pub(crate) fn judge(input: &[u8], answer: &[u8]) -> Verdict {
     Verdict::Differs(0)
 }
 
-pub(crate) fn show(input: &[u8]) {
-    print::answer(given(input), true);
+pub(crate) fn show(rt: &impl Print, input: &[u8]) -> io::Result<()> {
+    print::answer(rt, given(input), true)
 }

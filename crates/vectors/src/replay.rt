@@ -1,9 +1,10 @@
 // A list's lines through the compiled calls.
-ghost use Rattle.std.specs.Prelude.{◌+◌, ◌-◌, ◌^◌, ◌≤◌, ◌<◌};
+ghost use Rattle.std.specs.Prelude.{◌+◌, ◌-◌, ◌^◌, ◌≤◌, ◌<◌, IfOk};
 ghost use Rattle.vectors.specs.Counts.{Counts};
 
 use crate::tally::{Tally, Verdict};
 use crate::{digits, fields, print, reading, tables, tally, writing};
+use std::io;
 
 // So many lines that do not agree are printed for each list.
 const SHOWN: usize = 5;
@@ -40,12 +41,12 @@ fn judge(input: &[u8], answer: &[u8]) -> Verdict {
 }
 
 // What the call of a line that differs answered: it is made again.
-fn show_given(input: &[u8], room: usize) {
+fn show_given(rt: &impl Print, input: &[u8], room: usize) -> io::Result<()> {
     match kind_of(input) {
-        Kind::Digits => digits::show(input),
-        Kind::Reading => reading::show(input),
-        Kind::Table => tables::show(input),
-        Kind::Writing => writing::show(input, room),
+        Kind::Digits => digits::show(rt, input),
+        Kind::Reading => reading::show(rt, input),
+        Kind::Table => tables::show(rt, input),
+        Kind::Writing => writing::show(rt, input, room),
     }
 }
 
@@ -63,36 +64,48 @@ fn judge_line(line: &[u8]) -> Verdict {
     judge(&line[0..tab], &line[tab + 1..])
 }
 
-fn show(name: &[u8], number: usize, line: &[u8], verdict: Verdict) {
+fn show(
+    rt: &impl Print,
+    name: &[u8],
+    number: usize,
+    line: &[u8],
+    verdict: Verdict,
+) -> io::Result<()> {
     match verdict {
-        Verdict::Agrees => {}
-        Verdict::Comment => {}
+        Verdict::Agrees => Ok(()),
+        Verdict::Comment => Ok(()),
         Verdict::Malformed => {
-            print::place(name, number);
-            print::text(b"malformed\n");
+            print::place(rt, name, number)?;
+            print::text(rt, b"malformed\n")
         }
         Verdict::Differs(room) => {
-            print::place(name, number);
+            print::place(rt, name, number)?;
             let tab = fields::find(line, b'\t', 0);
-            show_given(&line[0..tab], room);
-            print::text(b"\n");
+            show_given(rt, &line[0..tab], room)?;
+            print::text(rt, b"\n")
         }
     }
 }
 
 // The counts with one line more.
-fn replay_line(name: &[u8], number: usize, line: &[u8], tally: Tally) -> Tally
+fn replay_line(
+    rt: &impl Print,
+    name: &[u8],
+    number: usize,
+    line: &[u8],
+    tally: Tally,
+) -> io::Result<Tally>
     requires { Counts tally × (tally.lines < 2 ^ 64 - 1) }
-    ensures { Counts result × (result.lines ≤ tally.lines + 1) }
+    ensures { IfOk result (λ t. Counts t × (t.lines ≤ tally.lines + 1)) }
 {
     let verdict = judge_line(line);
     if tally.lines - tally.agree < SHOWN {
-        show(name, number, line, verdict);
+        show(rt, name, number, line, verdict)?;
     }
-    tally::counted(tally, verdict)
+    Ok(tally::counted(tally, verdict))
 }
 
-pub(crate) fn list(name: &[u8], bytes: &[u8]) -> Tally {
+pub(crate) fn list(rt: &impl Print, name: &[u8], bytes: &[u8]) -> io::Result<Tally> {
     let mut tally = Tally {
         lines: 0,
         agree: 0,
@@ -103,8 +116,8 @@ pub(crate) fn list(name: &[u8], bytes: &[u8]) -> Tally {
     while at < bytes.len() {
         number += 1;
         let end = fields::find(bytes, b'\n', at);
-        tally = replay_line(name, number, &bytes[at..end], tally);
+        tally = replay_line(rt, name, number, &bytes[at..end], tally)?;
         at = end + 1;
     }
-    tally
+    Ok(tally)
 }

@@ -5,6 +5,7 @@ use crate::answer::Answer;
 use crate::numbers::Number;
 use crate::tally::Verdict;
 use crate::{answer, fields, hex, lent, numbers, planes, print, sheets};
+use std::io;
 
 // A line's bytes, and the bytes lent: more are malformed.
 const ROOM: usize = 32768;
@@ -103,7 +104,7 @@ pub(crate) fn judge(input: &[u8], answer: &[u8]) -> Verdict {
     Verdict::Differs(0)
 }
 
-pub(crate) fn show(input: &[u8]) {
+pub(crate) fn show(rt: &impl Print, input: &[u8]) -> io::Result<()> {
     let mut out = space();
-    print::answer(given(input, &mut out), false);
+    print::answer(rt, given(input, &mut out), false)
 }

@@ -7,6 +7,7 @@ use crate::{answer, fields, format, kinds, lent, numbers, print};
 use lexical_format::Options;
 use lexical_util::Refusal;
 use lexical_write_float::{write_f32, write_f64};
+use std::io;
 
 // The places of the fields.
 const WIDTH: usize = 0;
@@ -157,27 +158,28 @@ fn length_of(answer: Answer) -> u64 {
 }
 
 // A text of so many bytes, and whether a byte past it has changed.
-fn show_text(n: u64, out: &[u8]) {
+fn show_text(rt: &impl Print, n: u64, out: &[u8]) -> io::Result<()> {
     if n > out.len() as u64 {
-        return;
+        return Ok(());
     }
     let end = n as usize;
     if end > 0 {
-        print::text(b" ");
-        print::text(&out[0..end]);
+        print::text(rt, b" ")?;
+        print::text(rt, &out[0..end])?;
     }
     if !lent::is_filled(&out[end..]) {
-        print::text(b", and changed a byte past it");
+        print::text(rt, b", and changed a byte past it")?;
     }
+    Ok(())
 }
 
 // `with <room> bytes <answer> <text>`
-pub(crate) fn show(input: &[u8], room: usize) {
+pub(crate) fn show(rt: &impl Print, input: &[u8], room: usize) -> io::Result<()> {
     let mut space = filled();
     let given = call_with(input, room, &mut space);
-    print::text(b"with ");
-    print::number(room as u64);
-    print::text(b" bytes ");
-    print::answer(given, false);
-    show_text(length_of(given), &space);
+    print::text(rt, b"with ")?;
+    print::number(rt, room as u64)?;
+    print::text(rt, b" bytes ")?;
+    print::answer(rt, given, false)?;
+    show_text(rt, length_of(given), &space)
 }

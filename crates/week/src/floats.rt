@@ -4,6 +4,7 @@ use lexical_read_float::{ReadF32, ReadF64, read_f32, read_f64};
 use lexical_rewrite::{Chained, RECORD_SIZE, chain_f32, chain_f64};
 use lexical_util::Written;
 use lexical_write_float::{LONGEST_TEXT, write_f32, write_f64};
+use std::io;
 
 const ROOM: usize = LONGEST_TEXT;
 
@@ -27,44 +28,42 @@ fn f32_of(bits: u32) -> f32 {
 }
 
 // A NaN is told by `x != x`: its bits are not defined.
-fn print_f64(x: f64) {
+fn print_f64(rt: &impl Print, x: f64) -> io::Result<()> {
     if x != x {
-        print::text(b"NaN");
-        return;
+        return print::text(rt, b"NaN");
     }
-    print::hex(f64::to_bits(x));
+    print::hex(rt, f64::to_bits(x))
 }
 
-fn print_f32(x: f32) {
+fn print_f32(rt: &impl Print, x: f32) -> io::Result<()> {
     if x != x {
-        print::text(b"NaN");
-        return;
+        return print::text(rt, b"NaN");
     }
     let bits = f32::to_bits(x);
-    print::hex(bits as u64);
+    print::hex(rt, bits as u64)
 }
 
 // Friday: the last text is read.
-fn friday_f64(text: &[u8]) {
+fn friday_f64(rt: &impl Print, text: &[u8]) -> io::Result<()> {
     let thursday = formats::thursday();
     match read_f64(text, thursday.format, thursday.options) {
-        ReadF64::Float(x) => print_f64(x),
-        ReadF64::Refused(r) => print::refusal(r),
+        ReadF64::Float(x) => print_f64(rt, x),
+        ReadF64::Refused(r) => print::refusal(rt, r),
     }
 }
 
-fn arrived_f64(answer: Chained, out: &[u8]) {
-    print::chained(answer, out);
-    print::text(b" ");
+fn arrived_f64(rt: &impl Print, answer: Chained, out: &[u8]) -> io::Result<()> {
+    print::chained(rt, answer, out)?;
+    print::text(rt, b" ")?;
     match answer {
-        Chained::Length(n) => friday_f64(print::front(out, n)),
-        Chained::ReadingRefused(_, _) => {}
-        Chained::WritingRefused(_, _) => {}
+        Chained::Length(n) => friday_f64(rt, print::front(out, n)),
+        Chained::ReadingRefused(_, _) => Ok(()),
+        Chained::WritingRefused(_, _) => Ok(()),
     }
 }
 
 // Wednesday and Thursday: two stations.
-fn stations_f64(text: &[u8]) {
+fn stations_f64(rt: &impl Print, text: &[u8]) -> io::Result<()> {
     let records = formats::RECORDS;
     let mut out = room();
     let first = formats::wednesday();
@@ -75,47 +74,47 @@ fn stations_f64(text: &[u8]) {
         &records[0..RECORD_SIZE],
         &mut out,
     );
-    arrived_f64(answer, &out);
+    arrived_f64(rt, answer, &out)
 }
 
-fn written_f64(answer: Written, out: &[u8]) {
-    print::answer(answer, out);
-    print::text(b" ");
+fn written_f64(rt: &impl Print, answer: Written, out: &[u8]) -> io::Result<()> {
+    print::answer(rt, answer, out)?;
+    print::text(rt, b" ")?;
     match answer {
-        Written::Length(n) => stations_f64(print::front(out, n)),
-        Written::Refused(_) => {}
+        Written::Length(n) => stations_f64(rt, print::front(out, n)),
+        Written::Refused(_) => Ok(()),
     }
 }
 
 // Tuesday: the float becomes a text.
-fn tuesday_f64(bits: u64) {
+fn tuesday_f64(rt: &impl Print, bits: u64) -> io::Result<()> {
     let tuesday = formats::tuesday();
     let mut out = room();
     let answer = write_f64(f64_of(bits), tuesday.format, tuesday.options, &mut out);
-    written_f64(answer, &out);
+    written_f64(rt, answer, &out)
 }
 
 // Friday: the last text is read.
-fn friday_f32(text: &[u8]) {
+fn friday_f32(rt: &impl Print, text: &[u8]) -> io::Result<()> {
     let thursday = formats::thursday();
     match read_f32(text, thursday.format, thursday.options) {
-        ReadF32::Float(x) => print_f32(x),
-        ReadF32::Refused(r) => print::refusal(r),
+        ReadF32::Float(x) => print_f32(rt, x),
+        ReadF32::Refused(r) => print::refusal(rt, r),
     }
 }
 
-fn arrived_f32(answer: Chained, out: &[u8]) {
-    print::chained(answer, out);
-    print::text(b" ");
+fn arrived_f32(rt: &impl Print, answer: Chained, out: &[u8]) -> io::Result<()> {
+    print::chained(rt, answer, out)?;
+    print::text(rt, b" ")?;
     match answer {
-        Chained::Length(n) => friday_f32(print::front(out, n)),
-        Chained::ReadingRefused(_, _) => {}
-        Chained::WritingRefused(_, _) => {}
+        Chained::Length(n) => friday_f32(rt, print::front(out, n)),
+        Chained::ReadingRefused(_, _) => Ok(()),
+        Chained::WritingRefused(_, _) => Ok(()),
     }
 }
 
 // Wednesday and Thursday: two stations.
-fn stations_f32(text: &[u8]) {
+fn stations_f32(rt: &impl Print, text: &[u8]) -> io::Result<()> {
     let records = formats::RECORDS;
     let mut out = room();
     let first = formats::wednesday();
@@ -126,68 +125,68 @@ fn stations_f32(text: &[u8]) {
         &records[0..RECORD_SIZE],
         &mut out,
     );
-    arrived_f32(answer, &out);
+    arrived_f32(rt, answer, &out)
 }
 
-fn written_f32(answer: Written, out: &[u8]) {
-    print::answer(answer, out);
-    print::text(b" ");
+fn written_f32(rt: &impl Print, answer: Written, out: &[u8]) -> io::Result<()> {
+    print::answer(rt, answer, out)?;
+    print::text(rt, b" ")?;
     match answer {
-        Written::Length(n) => stations_f32(print::front(out, n)),
-        Written::Refused(_) => {}
+        Written::Length(n) => stations_f32(rt, print::front(out, n)),
+        Written::Refused(_) => Ok(()),
     }
 }
 
 // Tuesday: the float becomes a text.
-fn tuesday_f32(bits: u32) {
+fn tuesday_f32(rt: &impl Print, bits: u32) -> io::Result<()> {
     let tuesday = formats::tuesday();
     let mut out = room();
     let answer = write_f32(f32_of(bits), tuesday.format, tuesday.options, &mut out);
-    written_f32(answer, &out);
+    written_f32(rt, answer, &out)
 }
 
-fn week_f64(bits: u64) {
-    print::text(b"f64 ");
-    print::hex(bits);
-    print::text(b": ");
-    tuesday_f64(bits);
-    print::text(b"\n");
+fn week_f64(rt: &impl Print, bits: u64) -> io::Result<()> {
+    print::text(rt, b"f64 ")?;
+    print::hex(rt, bits)?;
+    print::text(rt, b": ")?;
+    tuesday_f64(rt, bits)?;
+    print::text(rt, b"\n")
 }
 
-fn week_f32(bits: u32) {
-    print::text(b"f32 ");
-    print::hex(bits as u64);
-    print::text(b": ");
-    tuesday_f32(bits);
-    print::text(b"\n");
+fn week_f32(rt: &impl Print, bits: u32) -> io::Result<()> {
+    print::text(rt, b"f32 ")?;
+    print::hex(rt, bits as u64)?;
+    print::text(rt, b": ")?;
+    tuesday_f32(rt, bits)?;
+    print::text(rt, b"\n")
 }
 
 // The float, and the one with its sign bit set.
-fn both_f64(bits: u64) {
-    week_f64(bits);
-    week_f64(bits | 0x8000_0000_0000_0000);
+fn both_f64(rt: &impl Print, bits: u64) -> io::Result<()> {
+    week_f64(rt, bits)?;
+    week_f64(rt, bits | 0x8000_0000_0000_0000)
 }
 
-fn both_f32(bits: u32) {
-    week_f32(bits);
-    week_f32(bits | 0x8000_0000);
+fn both_f32(rt: &impl Print, bits: u32) -> io::Result<()> {
+    week_f32(rt, bits)?;
+    week_f32(rt, bits | 0x8000_0000)
 }
 
 // A text that no float is written as, from Wednesday on.
-fn sent_f64(text: &[u8]) {
-    print::text(b"f64 ");
-    print::text(text);
-    print::text(b": ");
-    stations_f64(text);
-    print::text(b"\n");
+fn sent_f64(rt: &impl Print, text: &[u8]) -> io::Result<()> {
+    print::text(rt, b"f64 ")?;
+    print::text(rt, text)?;
+    print::text(rt, b": ")?;
+    stations_f64(rt, text)?;
+    print::text(rt, b"\n")
 }
 
-fn sent_f32(text: &[u8]) {
-    print::text(b"f32 ");
-    print::text(text);
-    print::text(b": ");
-    stations_f32(text);
-    print::text(b"\n");
+fn sent_f32(rt: &impl Print, text: &[u8]) -> io::Result<()> {
+    print::text(rt, b"f32 ")?;
+    print::text(rt, text)?;
+    print::text(rt, b": ")?;
+    stations_f32(rt, text)?;
+    print::text(rt, b"\n")
 }
 
 const F64: [u64; 18] = [
@@ -226,45 +225,41 @@ const F32: [u32; 12] = [
     0x7f7f_ffff,
 ];
 
-fn run_f64() {
-    let list = F64;
-    let mut i = 0;
-    while i < 18 {
-        both_f64(list[i]);
-        i += 1;
+fn run_f64(rt: &impl Print) -> io::Result<()> {
+    for bits in &F64 {
+        both_f64(rt, *bits)?;
     }
+    Ok(())
 }
 
-fn run_f32() {
-    let list = F32;
-    let mut i = 0;
-    while i < 12 {
-        both_f32(list[i]);
-        i += 1;
+fn run_f32(rt: &impl Print) -> io::Result<()> {
+    for bits in &F32 {
+        both_f32(rt, *bits)?;
     }
+    Ok(())
 }
 
 // A "never" end that a station wrote as the largest float with a digit more, and the like with a sign: every later text is that float's.
-fn nevers() {
-    sent_f64(b"F.FFFFFFFFFFFF8Fp1020");
-    sent_f64(b"-F.FFFFFFFFFFFF8Fp1020");
-    sent_f32(b"F.FFFFF7p124");
-    sent_f32(b"-F.FFFFF7p124");
+fn nevers(rt: &impl Print) -> io::Result<()> {
+    sent_f64(rt, b"F.FFFFFFFFFFFF8Fp1020")?;
+    sent_f64(rt, b"-F.FFFFFFFFFFFF8Fp1020")?;
+    sent_f32(rt, b"F.FFFFF7p124")?;
+    sent_f32(rt, b"-F.FFFFF7p124")
 }
 
 // A magnitude of half the least float rounds to zero, which keeps its sign; one of three quarters does not.
-fn vanishing() {
-    sent_f64(b"1p-1075");
-    sent_f64(b"-1p-1075");
-    sent_f64(b"-3p-1076");
-    sent_f32(b"1p-150");
-    sent_f32(b"-1p-150");
-    sent_f32(b"-3p-151");
+fn vanishing(rt: &impl Print) -> io::Result<()> {
+    sent_f64(rt, b"1p-1075")?;
+    sent_f64(rt, b"-1p-1075")?;
+    sent_f64(rt, b"-3p-1076")?;
+    sent_f32(rt, b"1p-150")?;
+    sent_f32(rt, b"-1p-150")?;
+    sent_f32(rt, b"-3p-151")
 }
 
-pub(crate) fn run() {
-    run_f64();
-    run_f32();
-    nevers();
-    vanishing();
+pub(crate) fn run(rt: &impl Print) -> io::Result<()> {
+    run_f64(rt)?;
+    run_f32(rt)?;
+    nevers(rt)?;
+    vanishing(rt)
 }

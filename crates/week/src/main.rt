@@ -6,7 +6,9 @@ mod floats;
 mod formats;
 mod print;
 
-fn main() {
-    floats::run();
-    chains::run();
+use std::io;
+
+fn main(rt: HostRuntime) -> io::Result<()> {
+    floats::run(&rt)?;
+    chains::run(&rt)
 }

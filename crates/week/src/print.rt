@@ -1,25 +1,25 @@
 // What the program prints with.
 use lexical_rewrite::Chained;
 use lexical_util::{Refusal, Written};
-use libc::STDOUT_FILENO;
+use std::io;
 
-pub(crate) fn text(s: &[u8]) {
-    io::write_all(STDOUT_FILENO, s);
+pub(crate) fn text(rt: &impl Print, s: &[u8]) -> io::Result<()> {
+    rt.write_all(s)
 }
 
-pub(crate) fn number(n: u64) {
-    io::print_decimal(STDOUT_FILENO, n);
+pub(crate) fn number(rt: &impl Print, n: u64) -> io::Result<()> {
+    print!(rt; "{n}")
 }
 
-pub(crate) fn hex(n: u64) {
-    io::print_hex(STDOUT_FILENO, n, 1);
+pub(crate) fn hex(rt: &impl Print, n: u64) -> io::Result<()> {
+    print!(rt; "{n:x}")
 }
 
-pub(crate) fn refusal(r: Refusal) {
-    text(b"refused ");
-    number(r.number as u64);
-    text(b" at ");
-    number(r.place as u64);
+pub(crate) fn refusal(rt: &impl Print, r: Refusal) -> io::Result<()> {
+    text(rt, b"refused ")?;
+    number(rt, r.number as u64)?;
+    text(rt, b" at ")?;
+    number(rt, r.place as u64)
 }
 
 // The first bytes, so many, or all where there are fewer.
@@ -31,25 +31,25 @@ pub(crate) fn front(out: &[u8], n: usize) -> &[u8] {
 }
 
 // The text of an answer, or its refusal.
-pub(crate) fn answer(written: Written, out: &[u8]) {
+pub(crate) fn answer(rt: &impl Print, written: Written, out: &[u8]) -> io::Result<()> {
     match written {
-        Written::Length(n) => text(front(out, n)),
-        Written::Refused(r) => refusal(r),
+        Written::Length(n) => text(rt, front(out, n)),
+        Written::Refused(r) => refusal(rt, r),
     }
 }
 
-fn station(name: &[u8], i: usize, r: Refusal) {
-    text(b"station ");
-    number(i as u64);
-    text(name);
-    refusal(r);
+fn station(rt: &impl Print, name: &[u8], i: usize, r: Refusal) -> io::Result<()> {
+    text(rt, b"station ")?;
+    number(rt, i as u64)?;
+    text(rt, name)?;
+    refusal(rt, r)
 }
 
 // The last text, or the station that refused.
-pub(crate) fn chained(answer: Chained, out: &[u8]) {
+pub(crate) fn chained(rt: &impl Print, answer: Chained, out: &[u8]) -> io::Result<()> {
     match answer {
-        Chained::Length(n) => text(front(out, n)),
-        Chained::ReadingRefused(i, r) => station(b", reading: ", i, r),
-        Chained::WritingRefused(i, r) => station(b", writing: ", i, r),
+        Chained::Length(n) => text(rt, front(out, n)),
+        Chained::ReadingRefused(i, r) => station(rt, b", reading: ", i, r),
+        Chained::WritingRefused(i, r) => station(rt, b", writing: ", i, r),
     }
 }
