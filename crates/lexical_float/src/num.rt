@@ -17,7 +17,7 @@ pub enum Parts {
 
 // A NaN is told by `x != x`: its bits are not defined.
 pub fn parts_f64(x: f64) -> Parts
-    ensures value_2 { result ≡ parts_of binary64 x }
+    ensures parts { result ≡ parts_of binary64 x }
     ensures value { IsValue x result }
 {
     if x != x {
@@ -27,7 +27,7 @@ pub fn parts_f64(x: f64) -> Parts
 }
 
 pub fn parts_f32(x: f32) -> Parts
-    ensures value_2 { result ≡ parts_of binary32 x }
+    ensures parts { result ≡ parts_of binary32 x }
     ensures value { IsValue x result }
 {
     if x != x {

@@ -10,7 +10,7 @@ use crate::table::{DIGIT_TO_BASE2_SQUARED, DIGIT_TO_BASE32_SQUARED, DIGIT_TO_CHA
 // The first step: one digit where an odd number is left, so that all others go by two.
 fn odd_digit(value: u64, b: u32, count: usize, from: usize, buffer: &mut [u8]) -> usize
     requires { (0 < b) × (b ≤ 5) × (from ≤ count) × (b * (count - from - 1) < 64) × (count ≤ length buffer.old) }
-    ensures lower_bound { (from ≤ result) × (result ≤ count) × ((count - result) % 2 ≡ 0) }
+    ensures place { (from ≤ result) × (result ≤ count) × ((count - result) % 2 ≡ 0) }
     ensures grows { Grows (last_numeral (2 ^ b) count value) from result buffer.old buffer.new }
 {
     if (count - from) % 2 == 1 {

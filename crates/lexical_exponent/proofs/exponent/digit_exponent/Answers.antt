@@ -26,27 +26,38 @@ wanted_fits : (c : After-struct_told-1) → SFits w32 (wanted c)
 wanted_fits c = place_fits _ _ (fits c)
 
 magnitude : (c : After-unsigned_abs-magnitude) → c.unsigned_abs-magnitude.result ≡ nat_abs c.args.s.0
-magnitude c = rw (is c.before) at c.unsigned_abs-magnitude.ensures
+magnitude c =
+    let fits' : SFits w32 c.args.s.0 = record { sfits = c.struct_told-1.given.0.1 } in
+    let is' : to_z w32 (of_z w32 c.args.s.0) ≡ c.args.s.0 = to_z-of_z fits' in
+    rw is' at c.unsigned_abs-magnitude.ensures
 
 negative : (c : Then-bits-lt0) → lt_z c.args.s.0 (pos 0) ≡ true
-negative c = rw (is c.before.before) at c.if-bits-lt0.true
+negative c =
+    let fits' : SFits w32 c.args.s.0 = record { sfits = c.struct_told-1.given.0.1 } in
+    let is' : to_z w32 (of_z w32 c.args.s.0) ≡ c.args.s.0 = to_z-of_z fits' in
+    rw is' at c.if-bits-lt0.true
 
 -- a negative s: p is the negated quotient, rounded up
-below : (c : After-fast_ceildiv-digits) → pos 0 -ℤ to_z w64 c.fast_ceildiv-digits.result ≡ wanted c.before.before.before.before
+below : (c : After-fast_ceildiv-digits) → pos 0 -ℤ to_z w64 c.fast_ceildiv-digits.result ≡ (place c.args.bits_per_digit c.args.s.0)
 below c =
+    let fits' : SFits w32 c.args.s.0 = record { sfits = c.struct_told-1.given.0.1 } in
+    let is' : to_z w32 (of_z w32 c.args.s.0) ≡ c.args.s.0 = to_z-of_z fits' in
+    let negative' : lt_z c.args.s.0 (pos 0) ≡ true = rw is' at c.if-bits-lt0.true in
+    let magnitude' : c.unsigned_abs-magnitude.result ≡ nat_abs c.args.s.0 = rw is' at c.unsigned_abs-magnitude.ensures in
     let a = c.args in
     rw (to_z_pos w64 {n = c.fast_ceildiv-digits.result} (omega arith))
-    (place_below a.s.0 a.bits_per_digit c.fast_ceildiv-digits.result (negative c.before.before)
-    (omega (arith, magnitude c.before.before.before)) (omega (arith, magnitude c.before.before.before)))
+    (place_below a.s.0 a.bits_per_digit c.fast_ceildiv-digits.result negative'
+    (omega (arith, magnitude')) (omega (arith, magnitude')))
 
-below_fits : (c : After-fast_ceildiv-digits) → SFits w64 (wanted c.before.before.before.before)
-below_fits c = sfits_widen {w = w32} tt (wanted_fits c.before.before.before.before)
+below_fits : (c : After-fast_ceildiv-digits) → SFits w64 (place c.args.bits_per_digit c.args.s.0)
+below_fits c =
+    let fits' : SFits w32 c.args.s.0 = record { sfits = c.struct_told-1.given.0.1 } in
+    let wanted_fits' : SFits w32 (place c.args.bits_per_digit c.args.s.0) = place_fits _ _ fits' in
+    sfits_widen {w = w32} tt wanted_fits'
 
 pub overflow_cast-result-then-bits-lt0 : goal.overflow_cast-result-then-bits-lt0
 overflow_cast-result-then-bits-lt0 c = rw (below (goal.at.overflow_cast-result-then-bits-lt0 c).After-fast_ceildiv-digits, to_z-of_z (below_fits (goal.at.overflow_cast-result-then-bits-lt0 c).After-fast_ceildiv-digits)) (wanted_fits (goal.at.overflow_cast-result-then-bits-lt0 c).After-struct_told-1)
 
-pub returns-then-bits-lt0-clause-result_value : goal.returns-then-bits-lt0-clause-result_value
-returns-then-bits-lt0-clause-result_value c = (floored _ _ _ (rw (below (goal.at.returns-then-bits-lt0-clause-result_value c).After-fast_ceildiv-digits, to_z-of_z (below_fits (goal.at.returns-then-bits-lt0-clause-result_value c).After-fast_ceildiv-digits), to_z-of_z (wanted_fits (goal.at.returns-then-bits-lt0-clause-result_value c).After-struct_told-1)))).0
-
-pub returns-then-bits-lt0-clause-floor : goal.returns-then-bits-lt0-clause-floor
-returns-then-bits-lt0-clause-floor c = (floored _ _ _ (rw (below (goal.at.returns-then-bits-lt0-clause-floor c).After-fast_ceildiv-digits, to_z-of_z (below_fits (goal.at.returns-then-bits-lt0-clause-floor c).After-fast_ceildiv-digits), to_z-of_z (wanted_fits (goal.at.returns-then-bits-lt0-clause-floor c).After-struct_told-1)))).1
+pub returns-then-bits-lt0 : goal.returns-then-bits-lt0
+returns-then-bits-lt0 c = let f = floored _ _ _ (rw (below (goal.at.returns-then-bits-lt0 c).After-fast_ceildiv-digits, to_z-of_z (below_fits (goal.at.returns-then-bits-lt0 c).After-fast_ceildiv-digits), to_z-of_z (wanted_fits (goal.at.returns-then-bits-lt0 c).After-struct_told-1))) in
+    record { result_value = f.0; floor = f.1 }

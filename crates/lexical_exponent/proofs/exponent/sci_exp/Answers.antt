@@ -15,12 +15,8 @@ led : (c : Start) {s : ℤ} → let v = c.args.value in s ≡ clamped (scale v.m
     × (0 < v.mantissa → clamped (scale v.mantissa v.exponent.0) ≡ scale v.mantissa v.exponent.0 → LeadingBit v.mantissa v.exponent.0 s)
 led c e = (e, λ some held. leading_bit _ _ _ (e ∙ held) some)
 
-pub returns-clause-result_value : goal.returns-clause-result_value
-returns-clause-result_value c = let some : 0 < c.args.value.mantissa = pos_of_ne-zero (λ e. c.if-bits-eq0.false (c.significant_bits-bits.ensures.value ∙ ap size e ∙ size_zero)) in
+pub returns : goal.returns
+returns c = let some : 0 < c.args.value.mantissa = pos_of_ne-zero (λ e. c.if-bits-eq0.false (c.significant_bits-bits.ensures.value ∙ ap size e ∙ size_zero)) in
     let e = c.args.value.exponent.0 in
-    (led (goal.at.returns-clause-result_value c).Start (c.raised.ensures ∙ ap clamped (ap (λ (n : ℕ). e +ℤ pos (n - 1)) c.significant_bits-bits.ensures.value ∙ sym (scale_is c.args.value.mantissa e some)))).0
-
-pub returns-clause-leading : goal.returns-clause-leading
-returns-clause-leading c = let some : 0 < c.args.value.mantissa = pos_of_ne-zero (λ e. c.if-bits-eq0.false (c.significant_bits-bits.ensures.value ∙ ap size e ∙ size_zero)) in
-    let e = c.args.value.exponent.0 in
-    (led (goal.at.returns-clause-leading c).Start (c.raised.ensures ∙ ap clamped (ap (λ (n : ℕ). e +ℤ pos (n - 1)) c.significant_bits-bits.ensures.value ∙ sym (scale_is c.args.value.mantissa e some)))).1
+    let f = led (goal.at.returns c).Start (c.raised.ensures ∙ ap clamped (ap (λ (n : ℕ). e +ℤ pos (n - 1)) c.significant_bits-bits.ensures.value ∙ sym (scale_is c.args.value.mantissa e some))) in
+    record { result_value = f.0; leading = f.1 }

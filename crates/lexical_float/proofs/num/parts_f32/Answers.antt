@@ -11,8 +11,8 @@ use Rattle.lexical_float.proofs.num.parts_f32.Goals as goal
 held : (c : Start) → T (fits binary32 c.args.x)
 held c = subst T (sym c.well_formed.0.1) tt
 
-pub returns-then-x-clause-value_2 : goal.returns-then-x-clause-value_2
-returns-then-x-clause-value_2 c = (nan_parts binary32 c.args.x c.if-x.true).0
+pub returns-then-x-clause-parts : goal.returns-then-x-clause-parts
+returns-then-x-clause-parts c = (nan_parts binary32 c.args.x c.if-x.true).0
 
 pub returns-then-x-clause-value : goal.returns-then-x-clause-value
 returns-then-x-clause-value c = (nan_parts binary32 c.args.x c.if-x.true).1
@@ -26,8 +26,8 @@ overflow_cast-x c = omega (arith, to_bits-lt binary32 c.args.x (held (goal.at.ov
 pub parts_of_bits-requires : goal.parts_of_bits-requires
 parts_of_bits-requires c = omega (arith, to_bits-lt binary32 c.args.x (held (goal.at.parts_of_bits-requires c).Start))
 
-pub returns-clause-value_2 : goal.returns-clause-value_2
-returns-clause-value_2 c = (float_parts binary32 c.args.x _ (held (goal.at.returns-clause-value_2 c).Start) c.parts_of_bits.ensures).0
+pub returns-clause-parts : goal.returns-clause-parts
+returns-clause-parts c = (float_parts binary32 c.args.x _ (held (goal.at.returns-clause-parts c).Start) c.parts_of_bits.ensures).0
 
 pub returns-clause-value : goal.returns-clause-value
 returns-clause-value c = (float_parts binary32 c.args.x _ (held (goal.at.returns-clause-value c).Start) c.parts_of_bits.ensures).1

@@ -11,10 +11,10 @@ use Rattle.lexical_write_integer.proofs.radix.radix_by_bits.Goals as goal
 
 -- behind the first step no shift is longer
 fewer : (c : After-odd_digit-at) → c.args.b * (c.args.count - c.odd_digit-at.result - 1) < 64
-fewer c = shorter c.args.b _ _ (omega (arith, c.odd_digit-at.ensures.lower_bound)) c.requires.3
+fewer c = shorter c.args.b _ _ (omega (arith, c.odd_digit-at.ensures.place)) c.requires.3
 
 pub radix_pairs-requires : goal.radix_pairs-requires
 unfolding pair_byte digit_byte
-radix_pairs-requires c = let r = c.odd_digit-at.ensures.lower_bound in
+radix_pairs-requires c = let r = c.odd_digit-at.ensures.place in
     let one : c.args.b ≡ 1 = omega arith in
     (pairs_follow 1, omega arith, omega arith, r.1, r.2, rw one at (fewer (goal.at.radix_pairs-requires c).After-odd_digit-at), omega arith)
