@@ -20,6 +20,7 @@ def snake(name):
     name = name.replace("-", "_")
     name = re.sub(r"([a-z])(F\d\d)", r"\1_\2", name)
     if name[0].islower():
+        name = re.sub(r"([A-Z])([A-Z][a-z])", r"\1_\2", name)
         name = re.sub(r"([a-z0-9])([A-Z])", r"\1_\2", name).lower()
     return name
 

@@ -64,7 +64,7 @@ pub fn step<'a>(reader: Reader<'a>) -> Reader<'a>
     }
 }
 
-// The digit value of the byte at a place, and the place behind it. Its parameters are plain, so that its callers need no proof by hand.
+// The digit value of the byte at a place, and the place behind it. Its parameters are plain, so that its callers need no reader.
 pub fn next_digit(text: &[u8], at: usize) -> NextDigit
     ensures { (of_digit_value result.digit ≡ digit_at text.now at) × (result.at ≡ place_after text.now at) }
 {

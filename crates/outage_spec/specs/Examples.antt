@@ -44,8 +44,8 @@ infinity = 0x7ff0000000000000
 abbrev minus_infinity : ℕ
 minus_infinity = 0xfff0000000000000
 
-abbrev not_anumber : ℕ
-not_anumber = 0xfff8000000000000
+abbrev not_a_number : ℕ
+not_a_number = 0xfff8000000000000
 
 -- 16/2, exponent radix 10, mark "p", exponent required
 abbrev prints : String → List ℕ → Answer (List ℕ) → Example
@@ -84,7 +84,7 @@ tables =
     ∷ prints "an end below its start, before second zero" (table 1 24 (minus_one ∷ minus_one_and_half ∷ [])) (refused 14 0)
     ∷ prints "-infinity as a start" (table 1 24 (minus_infinity ∷ one ∷ [])) (refused 7 0)
     ∷ prints "an infinity as an end of row 1" (table 2 40 (one ∷ one ∷ one ∷ infinity ∷ [])) (refused 7 1)
-    ∷ prints "a NaN as a start of row 1" (table 2 40 (one ∷ not_anumber ∷ one ∷ one ∷ [])) (refused 7 1)
+    ∷ prints "a NaN as a start of row 1" (table 2 40 (one ∷ not_a_number ∷ one ∷ one ∷ [])) (refused 7 1)
     ∷ prints "an end below its start" (table 1 24 (one_and_half ∷ one ∷ [])) (refused 14 0)
     ∷ prints "row 0's 14 before row 1's 7" (table 2 40 (one_and_half ∷ infinity ∷ one ∷ one ∷ [])) (refused 14 0)
     ∷ prints_with "no digit limit" 0 (pos 0) 1 (table 0 8 []) (done (lines ("0" ∷ [])))
