@@ -1,9 +1,10 @@
 -- The digits in a text from a place on, one byte at a time, and a sum of digits that saturates. Assumes nothing.
-use Prim.Native.Nat.{ℕ, zero, suc, ◌+◌, ◌*◌, ◌≤◌, ◌<◌, min}
+use Prim.Native.Nat.{ℕ, zero, suc, ◌+◌, ◌-◌, ◌*◌, ◌≤◌, ◌<◌, min}
 use mathlib.Core.Path.{◌≡◌, refl, sym, ap, ◌∙◌, subst}
 use mathlib.Core.Bool.{Bool, true, false, ◌&&◌, and-true, and_assoc}
 use mathlib.Core.List.{List, [], ◌∷◌}
 use mathlib.Core.Option.{Option, none, some}
+use mathlib.Core.Logic.{◌⊎◌, inl, inr}
 use native.Mathlib.Nat.{lt_of_not-le, mul-one, mul-le-mul_left}
 use native.Mathlib.Numerals.{add-one}
 use native.Mathlib.Decide.{dec_le}
@@ -13,7 +14,9 @@ use lib.Bits.{bit_or, or_add_and, and_le_r}
 use lib.Dec.{ltb, eqb}
 use lib.ListN.{length, drop, get_or, drop_of_length-le}
 use lib.Seq.{drop-cons}
+use Rattle.std.proofs.lemmas.Bool.{cases_lt}
 use Rattle.lexical_util.specs.Digit.{digit_value, digit_in, read_on}
+use Rattle.lexical_util.proofs.DigitLaws.{value_figure, value_low}
 use Rattle.lexical_read_float_spec.specs.Parse.{more, run}
 use Rattle.lexical_read_float.specs.Digits.{IsDigitOrNone, digits_from, end_from, all_zero}
 use Rattle.lexical_read_float.specs.Scan.{too_great}
@@ -37,6 +40,15 @@ tells_digit x d e h = record { digit = λ l. e; no_digit = λ l. absurd (omega a
 
 pub tells_none : (x d : ℕ) → digit_value x ≡ none → 32 ≤ d → IsDigitOrNone (digit_value x) d
 tells_none x d e h = record { digit = λ l. absurd (omega arith); no_digit = λ l. e }
+
+-- figures, and none for any other byte
+pub tells_figure : (x f : ℕ) → (57 < x → digit_value x ≡ none) → (48 ≤ x → x ≤ 57 → f ≡ x - 48) → (x < 48 → f ≡ 255) → (57 < x → f ≡ 255) → IsDigitOrNone (digit_value x) f
+tells_figure x f above is low high = go (cases_lt x 48) (cases_lt 57 x)
+  where
+    go : (x < 48) ⊎ (48 ≤ x) → (57 < x) ⊎ (x ≤ 57) → IsDigitOrNone (digit_value x) f
+    go (inl a) s = tells_none x f (value_low x a) (omega (arith, low a))
+    go (inr a) (inl b) = tells_none x f (above b) (omega (arith, high b))
+    go (inr a) (inr b) = tells_digit x f (value_figure x a b ∙ ap some (sym (is a b))) (omega (arith, is a b))
 
 pub cons_nil : (d : ℕ) (ds : List ℕ) → d ∷ ds ≡ [] → ⊥
 cons_nil d ds e = let z : ◌≡◌ {A = ℕ} 0 1 = cc in omega arith
