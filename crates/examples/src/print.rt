@@ -1,44 +1,27 @@
 // What the examples print with.
-use lexical_util::{Refusal, Written};
+use lexical_util::Refusal;
 use std::io;
 
-pub(crate) fn text(rt: &impl Print, s: &[u8]) -> io::Result<()> {
-    rt.write_all(s)
-}
-
-pub(crate) fn number(rt: &impl Print, n: u64) -> io::Result<()> {
-    print!(rt; "{n}")
-}
-
-pub(crate) fn signed(rt: &impl Print, n: i32) -> io::Result<()> {
-    if n < 0 {
-        text(rt, b"-")?;
-    }
-    number(rt, lexical_exponent::unsigned_abs(n) as u64)
-}
-
-pub(crate) fn hex(rt: &impl Print, n: u64) -> io::Result<()> {
-    print!(rt; "{n:x}")
-}
-
-pub(crate) fn refusal(rt: &impl Print, r: Refusal) -> io::Result<()> {
-    text(rt, b"refused ")?;
-    number(rt, r.number as u64)?;
-    text(rt, b" at ")?;
-    number(rt, r.place as u64)
-}
-
+// The first bytes, so many, and none where there are fewer.
 pub(crate) fn first(rt: &impl Print, out: &[u8], n: usize) -> io::Result<()> {
-    if n <= out.len() {
-        text(rt, &out[..n])?;
-    }
-    Ok(())
+    rt.write_all(out.get(..n).unwrap_or(&[]))
 }
 
 // The text of an answer, or its refusal.
-pub(crate) fn answer(rt: &impl Print, written: Written, out: &[u8]) -> io::Result<()> {
+pub(crate) fn answer(
+    rt: &impl Print,
+    written: Result<usize, Refusal>,
+    out: &[u8],
+) -> io::Result<()> {
     match written {
-        Written::Length(n) => first(rt, out, n),
-        Written::Refused(r) => refusal(rt, r),
+        Ok(n) => first(rt, out, n),
+        Err(refusal) => print!(rt; "{refusal}"),
     }
+}
+
+// What the bytes lent hold then, and the line's end: ` [<bytes>]`.
+pub(crate) fn held(rt: &impl Print, out: &[u8]) -> io::Result<()> {
+    print!(rt; " [")?;
+    rt.write_all(out)?;
+    println!(rt; "]")
 }

@@ -1,14 +1,13 @@
-// Answers as they cross. No enum does, so each is a struct of numbers: the refusal's number, 0 where nothing was refused, its place, and what was asked for.
+// Answers as they cross. No enum does, so each is a struct of numbers, and no generic struct, which an exported function cannot have in its signature: the refusal's number, 0 where nothing was refused, its place, and what was asked for.
 ghost use Rattle.std.specs.Prelude.{◌≡◌};
-ghost use Rattle.lexical_util.specs.Answer.{of_written};
+ghost use Rattle.lexical_util.specs.Answer.{of_result};
 ghost use Rattle.lexical_rewrite_spec.specs.Chain.{at_station};
-ghost use Rattle.lexical_read_float.specs.Answer.{of_read_f32, of_read_f64};
 ghost use Rattle.lexical_rewrite.specs.Answer.{of_rewritten, of_chained};
+ghost use Rattle.export_structs.specs.Code.{parts_of};
 ghost use Rattle.export_structs.specs.Structs.{answer_of, answer_f64_of, answer_f32_of, station_answer_of};
 
-use lexical_read_float::{ReadF32, ReadF64};
-use lexical_rewrite::{Chained, Rewritten};
-use lexical_util::Written;
+use lexical_rewrite::{ChainRefusal, RewriteRefusal};
+use lexical_util::Refusal;
 
 // The value is the length written.
 #[repr(C)]
@@ -47,91 +46,89 @@ pub struct StationAnswer {
     pub value: usize,
 }
 
-pub fn answer_of(written: Written) -> Answer
-    ensures { result ≡ answer_of (of_written written) }
+// Number, place and value, as each answer has them: a refusal has what is given for none.
+fn parts<T: Copy>(answer: Result<T, Refusal>, none: T) -> (u32, usize, T)
+    ensures { result ≡ parts_of none (of_result answer) }
 {
-    match written {
-        Written::Length(length) => Answer {
-            number: 0,
-            place: 0,
+    match answer {
+        Ok(value) => (0, 0, value),
+        Err(refusal) => (refusal.reason.number(), refusal.place, none),
+    }
+}
+
+impl From<Result<usize, Refusal>> for Answer {
+    ghost from_gives = { λ written answer. answer ≡ answer_of (of_result written) };
+
+    fn from(written: Result<usize, Refusal>) -> Answer {
+        let (number, place, length) = parts(written, 0);
+        Answer {
+            number,
+            place,
             value: length,
-        },
-        Written::Refused(refusal) => Answer {
-            number: refusal.number,
-            place: refusal.place,
-            value: 0,
-        },
+        }
     }
 }
 
-pub fn answer_f64_of(read: ReadF64) -> AnswerF64
-    ensures { result ≡ answer_f64_of (of_read_f64 read) }
-{
-    match read {
-        ReadF64::Float(double) => AnswerF64 {
-            number: 0,
-            place: 0,
+impl From<Result<f64, Refusal>> for AnswerF64 {
+    ghost from_gives = { λ read answer. answer ≡ answer_f64_of (of_result read) };
+
+    fn from(read: Result<f64, Refusal>) -> AnswerF64 {
+        let (number, place, double) = parts(read, 0.0);
+        AnswerF64 {
+            number,
+            place,
             value: double,
-        },
-        ReadF64::Refused(refusal) => AnswerF64 {
-            number: refusal.number,
-            place: refusal.place,
-            value: 0.0,
-        },
+        }
     }
 }
 
-pub fn answer_f32_of(read: ReadF32) -> AnswerF32
-    ensures { result ≡ answer_f32_of (of_read_f32 read) }
-{
-    match read {
-        ReadF32::Float(single) => AnswerF32 {
-            number: 0,
-            place: 0,
+impl From<Result<f32, Refusal>> for AnswerF32 {
+    ghost from_gives = { λ read answer. answer ≡ answer_f32_of (of_result read) };
+
+    fn from(read: Result<f32, Refusal>) -> AnswerF32 {
+        let (number, place, single) = parts(read, 0.0);
+        AnswerF32 {
+            number,
+            place,
             value: single,
-        },
-        ReadF32::Refused(refusal) => AnswerF32 {
-            number: refusal.number,
-            place: refusal.place,
-            value: 0.0,
-        },
+        }
     }
 }
 
-pub fn chained_of(chained: Chained) -> StationAnswer
-    ensures { result ≡ station_answer_of (of_chained chained) }
-{
-    match chained {
-        Chained::Length(last) => StationAnswer {
-            number: 0,
-            writing: false,
-            station: 0,
-            place: 0,
-            value: last,
-        },
-        Chained::ReadingRefused(station, refusal) => StationAnswer {
-            number: refusal.number,
-            writing: false,
-            station,
-            place: refusal.place,
-            value: 0,
-        },
-        Chained::WritingRefused(station, refusal) => StationAnswer {
-            number: refusal.number,
-            writing: true,
-            station,
-            place: refusal.place,
-            value: 0,
-        },
+impl From<Result<usize, ChainRefusal>> for StationAnswer {
+    ghost from_gives = { λ chained answer. answer ≡ station_answer_of (of_chained chained) };
+
+    fn from(chained: Result<usize, ChainRefusal>) -> StationAnswer {
+        match chained {
+            Ok(last) => StationAnswer {
+                number: 0,
+                writing: false,
+                station: 0,
+                place: 0,
+                value: last,
+            },
+            Err(ChainRefusal { station, refusal }) => {
+                let (writing, refusal) = match refusal {
+                    RewriteRefusal::Reading(refusal) => (false, refusal),
+                    RewriteRefusal::Writing(refusal) => (true, refusal),
+                };
+                StationAnswer {
+                    number: refusal.reason.number(),
+                    writing,
+                    station,
+                    place: refusal.place,
+                    value: 0,
+                }
+            }
+        }
     }
 }
 
-pub fn rewritten_of(rewritten: Rewritten) -> StationAnswer
-    ensures { result ≡ station_answer_of (at_station 0 (of_rewritten rewritten)) }
-{
-    match rewritten {
-        Rewritten::Length(length) => chained_of(Chained::Length(length)),
-        Rewritten::ReadingRefused(refusal) => chained_of(Chained::ReadingRefused(0, refusal)),
-        Rewritten::WritingRefused(refusal) => chained_of(Chained::WritingRefused(0, refusal)),
+impl From<Result<usize, RewriteRefusal>> for StationAnswer {
+    ghost from_gives = { λ rewritten answer. answer ≡ station_answer_of (at_station 0 (of_rewritten rewritten)) };
+
+    fn from(rewritten: Result<usize, RewriteRefusal>) -> StationAnswer {
+        let station = 0;
+        StationAnswer::from(rewritten.map_err(|refusal| ChainRefusal { station, refusal }))
     }
 }

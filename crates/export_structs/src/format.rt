@@ -1,6 +1,6 @@
 // A format as it crosses, and what the calls beneath take for it.
 ghost use Rattle.std.specs.Prelude.{◌≡◌};
-ghost use Rattle.export_structs.specs.Structs.{number_format_of, mode_of, options_of, text_format_of};
+ghost use Rattle.export_structs.specs.Structs.{number_format_of, options_of, text_format_of};
 
 use lexical_format::{NumberFormat, Options, RoundMode};
 use lexical_rewrite_spec::TextFormat;
@@ -27,52 +27,51 @@ pub struct Format {
     pub exponent_width: u32,
 }
 
-pub fn number_format_of(format: Format) -> NumberFormat
-    ensures { result ≡ number_format_of format }
-{
-    NumberFormat {
-        mantissa_radix: format.mantissa_radix,
-        exponent_base: format.exponent_base,
-        exponent_radix: format.exponent_radix,
-        required_exponent_notation: format.required_exponent_notation,
-        no_exponent_notation: format.no_exponent_notation,
-        required_exponent_sign: format.required_exponent_sign,
-        no_exponent_without_fraction: format.no_exponent_without_fraction,
+impl From<Format> for NumberFormat {
+    ghost from_gives = { λ format number_format. number_format ≡ number_format_of format };
+
+    fn from(format: Format) -> NumberFormat {
+        NumberFormat {
+            mantissa_radix: format.mantissa_radix,
+            exponent_base: format.exponent_base,
+            exponent_radix: format.exponent_radix,
+            required_exponent_notation: format.required_exponent_notation,
+            no_exponent_notation: format.no_exponent_notation,
+            required_exponent_sign: format.required_exponent_sign,
+            no_exponent_without_fraction: format.no_exponent_without_fraction,
+        }
     }
 }
 
-fn mode_of(truncate: bool) -> RoundMode
-    ensures { result ≡ mode_of truncate }
-{
-    if truncate {
-        RoundMode::Truncate
-    } else {
-        RoundMode::Round
+impl From<Format> for Options {
+    ghost from_gives = { λ format options. options ≡ options_of format };
+
+    fn from(format: Format) -> Options {
+        Options {
+            max_significant_digits: format.max_significant_digits,
+            min_significant_digits: format.min_significant_digits,
+            positive_exponent_break: format.positive_exponent_break,
+            negative_exponent_break: format.negative_exponent_break,
+            exponent_width: format.exponent_width,
+            round_mode: if format.truncate {
+                RoundMode::Truncate
+            } else {
+                RoundMode::Round
+            },
+            trim_floats: format.trim_floats,
+            exponent: format.exponent,
+            decimal_point: format.decimal_point,
+        }
     }
 }
 
-pub fn options_of(format: Format) -> Options
-    ensures { result ≡ options_of format }
-{
-    Options {
-        max_significant_digits: format.max_significant_digits,
-        min_significant_digits: format.min_significant_digits,
-        positive_exponent_break: format.positive_exponent_break,
-        negative_exponent_break: format.negative_exponent_break,
-        exponent_width: format.exponent_width,
-        round_mode: mode_of(format.truncate),
-        trim_floats: format.trim_floats,
-        exponent: format.exponent,
-        decimal_point: format.decimal_point,
-    }
-}
+impl From<Format> for TextFormat {
+    ghost from_gives = { λ format text_format. text_format ≡ text_format_of format };
 
-pub fn text_format_of(format: Format) -> TextFormat
-    ensures { result ≡ text_format_of format }
-{
-    let options = options_of(format);
-    TextFormat {
-        format: number_format_of(format),
-        options,
+    fn from(format: Format) -> TextFormat {
+        TextFormat {
+            format: format.into(),
+            options: format.into(),
+        }
     }
 }

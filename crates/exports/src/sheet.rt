@@ -4,15 +4,14 @@ ghost use Rattle.lexical_util.specs.Answer.{written, held};
 ghost use Rattle.outage_spec.specs.Calls.{table_sheet, sheet_table};
 ghost use Rattle.export_structs.specs.Structs.{number_format_of, options_of, answer_of};
 
-use export_structs::{Answer, Format, answer_of, number_format_of, options_of};
+use export_structs::{Answer, Format};
 
 #[unsafe(no_mangle)]
 pub extern "C" fn outage_table_to_sheet(table: &[u8], format: Format, sheet: &mut [u8]) -> Answer
     ensures value { result ≡ answer_of (written (table_sheet (number_format_of format) (options_of format) table.now) sheet.old) }
     ensures sheet_after { sheet.new ≡ held (table_sheet (number_format_of format) (options_of format) table.now) sheet.old }
 {
-    let options = options_of(format);
-    answer_of(outage_table::table_to_sheet(table, number_format_of(format), options, sheet))
+    outage_table::table_to_sheet(table, format.into(), format.into(), sheet).into()
 }
 
 #[unsafe(no_mangle)]
@@ -20,6 +19,5 @@ pub extern "C" fn outage_sheet_to_table(sheet: &[u8], format: Format, table: &mu
     ensures value { result ≡ answer_of (written (sheet_table (number_format_of format) (options_of format) sheet.now (length table.old)) table.old) }
     ensures table_after { table.new ≡ held (sheet_table (number_format_of format) (options_of format) sheet.now (length table.old)) table.old }
 {
-    let options = options_of(format);
-    answer_of(outage_sheet::sheet_to_table(sheet, number_format_of(format), options, table))
+    outage_sheet::sheet_to_table(sheet, format.into(), format.into(), table).into()
 }

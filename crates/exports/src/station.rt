@@ -1,4 +1,4 @@
-// A text rewritten, by one station or by a chain of them.
+// A text rewritten, by one station or by a chain of them. A call for each width, since C has no generic ones.
 ghost use Rattle.std.specs.Prelude.{◌≡◌};
 ghost use Rattle.std.specs.Float.{binary32, binary64};
 ghost use Rattle.lexical_rewrite_spec.specs.Rewrite.{read_in, rewrite_answer, rewrite_bytes};
@@ -6,7 +6,7 @@ ghost use Rattle.lexical_rewrite_spec.specs.Record.{formats_of};
 ghost use Rattle.lexical_rewrite_spec.specs.Chain.{at_station, chain_of};
 ghost use Rattle.export_structs.specs.Structs.{text_format_of, station_answer_of};
 
-use export_structs::{Format, StationAnswer, chained_of, rewritten_of, text_format_of};
+use export_structs::{Format, StationAnswer};
 
 #[unsafe(no_mangle)]
 pub extern "C" fn lexical_rewrite_f64(
@@ -18,8 +18,7 @@ pub extern "C" fn lexical_rewrite_f64(
     ensures value { result ≡ station_answer_of (at_station 0 (rewrite_answer (text_format_of to) buffer.old (read_in binary64 (text_format_of from) text.now))) }
     ensures buffer_after { buffer.new ≡ rewrite_bytes (text_format_of to) buffer.old (read_in binary64 (text_format_of from) text.now) }
 {
-    let source = text_format_of(from);
-    rewritten_of(lexical_rewrite::rewrite_f64(text, source, text_format_of(to), buffer))
+    lexical_rewrite::rewrite_float::<f64>(text, from.into(), to.into(), buffer).into()
 }
 
 #[unsafe(no_mangle)]
@@ -32,8 +31,7 @@ pub extern "C" fn lexical_rewrite_f32(
     ensures value { result ≡ station_answer_of (at_station 0 (rewrite_answer (text_format_of to) buffer.old (read_in binary32 (text_format_of from) text.now))) }
     ensures buffer_after { buffer.new ≡ rewrite_bytes (text_format_of to) buffer.old (read_in binary32 (text_format_of from) text.now) }
 {
-    let source = text_format_of(from);
-    rewritten_of(lexical_rewrite::rewrite_f32(text, source, text_format_of(to), buffer))
+    lexical_rewrite::rewrite_float::<f32>(text, from.into(), to.into(), buffer).into()
 }
 
 // Each further station is a record, one behind the other.
@@ -48,9 +46,7 @@ pub extern "C" fn lexical_chain_f64(
     ensures value { result ≡ station_answer_of (chain_of binary64 (text_format_of from) text.now (text_format_of first) (formats_of further.now) buffer.old).answer }
     ensures buffer_after { buffer.new ≡ (chain_of binary64 (text_format_of from) text.now (text_format_of first) (formats_of further.now) buffer.old).bytes }
 {
-    let source = text_format_of(from);
-    let target = text_format_of(first);
-    chained_of(lexical_rewrite::chain_f64(text, source, target, further, buffer))
+    lexical_rewrite::chain_float::<f64>(text, from.into(), first.into(), further, buffer).into()
 }
 
 #[unsafe(no_mangle)]
@@ -64,7 +60,5 @@ pub extern "C" fn lexical_chain_f32(
     ensures value { result ≡ station_answer_of (chain_of binary32 (text_format_of from) text.now (text_format_of first) (formats_of further.now) buffer.old).answer }
     ensures buffer_after { buffer.new ≡ (chain_of binary32 (text_format_of from) text.now (text_format_of first) (formats_of further.now) buffer.old).bytes }
 {
-    let source = text_format_of(from);
-    let target = text_format_of(first);
-    chained_of(lexical_rewrite::chain_f32(text, source, target, further, buffer))
+    lexical_rewrite::chain_float::<f32>(text, from.into(), first.into(), further, buffer).into()
 }

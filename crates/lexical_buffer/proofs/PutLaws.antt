@@ -10,7 +10,7 @@ use borrow.Author.Tests.{le-leb, lt-leb, leb-true}
 use borrow.Author.Rules.{part_to_end}
 use lib.Dec.{leb}
 use lib.ListN.{length, take, drop, set, get_or, length-append, length-drop, take-append-drop}
-use lib.Seq.{set_split, drop-cons, set_at, length-take-le, take_at, drop-append-add, drop-drop, drop-length}
+use lib.Seq.{set_split, drop-cons, set_at, length-take-le, take_at, drop-append-add, drop-drop, drop-length, take_all}
 use Rattle.lexical_util.specs.Answer.{Answer, done, refused, written, held}
 use Rattle.lexical_util.proofs.AnswerLaws.{refused_done, done_same, text_short}
 use Rattle.lexical_buffer.specs.Put.{place_behind, next_place, held_from, put, Puts}
@@ -66,6 +66,11 @@ pub part_put : (d t l : List ℕ) (at n : ℕ) → at ≤ length d → n ≡ len
 unfolding put
 part_put d t l at n h e w =
     rw (w, e, part_to_end d at, drop-drop (length t) at d, drop-drop (length d - at) at d, add-sub_of_le h, drop-length, append-nil)
+
+-- a part from a place on that a loop went over, and that reads t then
+pub mid_put : (d l t : List ℕ) (at k n : ℕ) → take n l ≡ t → length l ≤ n → k ≡ length t → take at d ++ (l ++ drop k (drop at d)) ≡ put d at t
+unfolding put
+mid_put d l t at k n w h e = rw (sym (take_all n l h) ∙ w, e, drop-drop (length t) at d) refl
 
 -- a text put at the front
 pub put_front : (d t : List ℕ) → put d 0 t ≡ t ++ drop (length t) d

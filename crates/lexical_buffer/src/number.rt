@@ -4,7 +4,7 @@ ghost use Rattle.lexical_write_integer_spec.specs.Write.{digits_text};
 ghost use Rattle.lexical_buffer.specs.Put.{next_place, held_from};
 
 use crate::bytes::{lies_within, put_byte};
-use lexical_util::{Written, is_radix};
+use lexical_util::is_radix;
 use lexical_write_integer::{digit_byte, write_integer};
 
 // By the digits call, which is lent the part from the place on.
@@ -16,8 +16,8 @@ fn put_integer(buffer: &mut [u8], at: usize, value: u64, radix: u32, width: u32)
         return at;
     }
     match write_integer(value, radix, width, &mut buffer[at..]) {
-        Written::Length(count) => at + count,
-        Written::Refused(_) => at,
+        Ok(count) => at + count,
+        Err(_) => at,
     }
 }
 

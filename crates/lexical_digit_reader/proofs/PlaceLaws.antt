@@ -1,9 +1,8 @@
--- The laws of a place: where a byte stands, and at the text's end and past it. Assumes nothing.
-use Prim.Native.Nat.{ℕ, ◌+◌, ◌≤◌, ◌<◌}
+-- The laws of a place: where a byte stands. Assumes nothing.
+use Prim.Native.Nat.{ℕ, ◌+◌, ◌<◌}
 use mathlib.Core.Path.{◌≡◌}
 use mathlib.Core.List.{List}
-use mathlib.Core.Option.{none}
-use borrow.Author.Tests.{lt-ltb, le-ltb}
+use borrow.Author.Tests.{lt-ltb}
 use lib.ListN.{length, get_or}
 use Rattle.lexical_util.specs.Digit.{digit_value}
 use Rattle.lexical_digit_reader.specs.Place.{digit_at, place_after}
@@ -13,14 +12,6 @@ module _ (text : List ℕ) (at : ℕ) where
   unfolding digit_at
   digit_here h = rw (lt-ltb at (length text) h)
 
-  pub digit_past : length text ≤ at → digit_at text at ≡ none
-  unfolding digit_at
-  digit_past h = rw (le-ltb at (length text) h)
-
   pub place_here : at < length text → place_after text at ≡ at + 1
   unfolding place_after
   place_here h = rw (lt-ltb at (length text) h)
-
-  pub place_past : length text ≤ at → place_after text at ≡ at
-  unfolding place_after
-  place_past h = rw (le-ltb at (length text) h)

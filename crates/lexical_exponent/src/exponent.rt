@@ -66,15 +66,11 @@ pub fn sci_exp(value: Magnitude) -> BitExponent
     raised(exponent, bits - 1)
 }
 
-// The magnitude of a signed number: -1 - value has room where -value has none, at the least number.
+// The magnitude of a signed number, the least one's too.
 pub fn unsigned_abs(value: i32) -> u32
     ensures { result ≡ nat_abs value }
 {
-    if value < 0 {
-        let below = -1 - value;
-        return below as u32 + 1;
-    }
-    value as u32
+    value.unsigned_abs()
 }
 
 // value / divisor, and 0 for a divisor of 0. Digits have 1 to 5 bits, and a quotient by a constant takes a fraction of the time of one by a variable.

@@ -11,7 +11,7 @@ use lib.IntN.{ℤ, pos, negsuc}
 use lib.Pow.{pow_pos}
 use lib.Ieee.{Float, nan, inf, fin, Format, prec, low, hid, ones, top, up, down, minus, odd, of_fields, of_bits, to_bits, fits, is_nan, ne, nan_bits}
 use lib.Ieee.Bits.{is_true, cond_no, of_bits-to_bits, to_bits-of_bits, to_bits-lt, nan_bits_above}
-use lib.Ieee.Compare.{differs_from_itself, nan_differs}
+use lib.Ieee.Compare.{nan_differs}
 use lib.Ieee.Digits.{minus_val}
 use lib.Ieee.Exact.{HasValue, odd_sign}
 use lib.Ieee.Scale.{finite}
@@ -174,10 +174,6 @@ parts_value f x h =
     (split_bits f (to_bits f x) (to_bits-lt f x h) (λ b. IsValue (of_bits f b) (parts_of f (of_bits f b))) (parts_value_bits f))
 
 -- ---- a float by way of its bits, where it has some
-pub nan_parts : (f : Format) (x : Float) → ne x x ≡ true → (Special ≡ parts_of f x) × IsValue x Special
-unfolding parts_of
-nan_parts f x e = rw (differs_from_itself x (rw e tt)) (refl, tt)
-
 pub no_nan : (x : Float) → ne x x ≡ false → T (not (is_nan x))
 unfolding is_nan
 no_nan nan e = subst T (sym nan_differs ∙ e) tt

@@ -7,11 +7,22 @@ ghost use Rattle.lexical_float.specs.Parts.{magnitude_of, parts_of};
 
 use crate::num::Parts;
 use lexical_exponent::{BitExponent, Magnitude};
+use std::fmt;
 
-#[derive(Clone, Copy)]
+#[derive(Clone, Copy, Debug, PartialEq, Eq)]
 pub enum Width {
     Binary32,
     Binary64,
+}
+
+// By the type that has it.
+impl fmt::Display for Width {
+    fn fmt<W: fmt::Write>(&self, f: &mut fmt::Formatter<W>) -> fmt::Result {
+        f.write_str(match self {
+            Width::Binary32 => "f32",
+            Width::Binary64 => "f64",
+        })
+    }
 }
 
 // Where the fields of a bit pattern stand, and how its exponent is counted. The exponent's mask is also the infinity's bits.

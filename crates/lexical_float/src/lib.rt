@@ -7,6 +7,6 @@ pub mod order;
 pub mod sign;
 
 pub use encoding::{Encoding, Width, encoding_of, is_special};
-pub use num::{Parts, parts_f32, parts_f64};
+pub use num::{Float, Parts};
 pub use order::less_f64;
 pub use sign::minus_length;

@@ -3,11 +3,11 @@ use Prim.Native.Nat.{ℕ, zero, suc}
 use mathlib.Core.Path.{◌≡◌, refl, sym, ap, ◌∙◌}
 use mathlib.Core.Bool.{Bool, true, false, cond}
 use mathlib.Core.List.{List, [], ◌∷◌, ◌++◌}
-use mathlib.Core.Option.{Option, none, some}
+use Rattle.std.specs.Prelude.{Option, None, Some, is_some}
 use lib.Dec.{ltb}
 use lib.IntN.{ℤ, pos, negsuc}
 use Rattle.lexical_util.specs.Answer.{Answer, done, refused, and_then, Check, checked}
-use Rattle.lexical_util.specs.Digit.{digit_value, is_some, digit_in, is_digit}
+use Rattle.lexical_util.specs.Digit.{digit_value, digit_in, is_digit}
 use Rattle.lexical_format.specs.declared.format.Pair.{Pair}
 use Rattle.lexical_format.specs.declared.format.NumberFormat.{NumberFormat}
 use Rattle.lexical_format.specs.declared.options.Options.{Options}
@@ -15,15 +15,15 @@ use Rattle.lexical_format.specs.Code.{reading_of}
 use Rattle.lexical_format.specs.Format.{pair_of, bad_bytes, bad_counts, or_absent, reading_checks, writing_checks, checked_pair, reading_format, writing_format, settled, checked_format}
 
 -- ---- a byte by its digit value
-pub digit_of : (radix x d : ℕ) → digit_value x ≡ some d → ltb d radix ≡ is_digit radix x
+pub digit_of : (radix x d : ℕ) → digit_value x ≡ Some d → ltb d radix ≡ is_digit radix x
 unfolding is_digit digit_in
 digit_of radix x d e = rw e (go (ltb d radix))
   where
-    go : (t : Bool) → t ≡ is_some (cond t (some d) none)
+    go : (t : Bool) → t ≡ is_some (cond t (Some d) None)
     go true = refl
     go false = refl
 
-pub no_digit : (radix x : ℕ) → digit_value x ≡ none → false ≡ is_digit radix x
+pub no_digit : (radix x : ℕ) → digit_value x ≡ None → false ≡ is_digit radix x
 unfolding is_digit digit_in
 no_digit radix x e = rw e
 
@@ -68,8 +68,8 @@ writer_after_reader F o = go (pair_of F)
     go : (found : Option Pair)
         → and_then (checked_pair (reading_checks F o ++ own) found) (λ row. done (settled o row))
         ≡ and_then (checked_pair (reading_checks F o) found) (λ row. checked own (done (settled o row)))
-    go none = refl
-    go (some row) =
+    go None = refl
+    go (Some row) =
         checked_then (reading_checks F o ++ own) row (λ row. done (settled o row))
         ∙ checked_append (reading_checks F o) own (done (settled o row))
         ∙ sym (checked_then (reading_checks F o) row (λ row. checked own (done (settled o row))))

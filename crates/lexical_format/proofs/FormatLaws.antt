@@ -3,7 +3,7 @@ use Prim.Native.Nat.{ℕ, zero, suc, ◌*◌, ◌/◌, ◌^◌, ◌≤◌, ◌<�
 use mathlib.Core.Path.{◌≡◌, refl, sym, ap, ◌∙◌, subst}
 use mathlib.Core.Bool.{Bool, true, false, cond, ◌&&◌, ◌||◌}
 use mathlib.Core.List.{List, [], ◌∷◌, ◌++◌}
-use mathlib.Core.Option.{Option, none, some}
+use Rattle.std.specs.Prelude.{Option, None, Some}
 use native.Mathlib.Nat.{le_of_suc-le-suc, not-suc-le-zero}
 use native.Mathlib.Omega.{arith}
 use borrow.Author.Tests.{not-false, eqb-true, ltb-false}
@@ -78,17 +78,17 @@ row_tested (p ∷ ps) (suc i) other h all = row_tested ps i other (le_of_suc-le-
 pub row_is_pair : (i : ℕ) (other : Pair) → i < length pairs → IsPair (get_or pairs i other)
 row_is_pair i other h = row_tested pairs i other h all_tested
 
-none_some : {A : Type 0} (a : A) → none ≡ some a → ⊥
+none_some : {A : Type 0} (a : A) → None ≡ Some a → ⊥
 none_some a e = let z : ◌≡◌ {A = ℕ} 0 1 = cc in omega arith
 
 -- the row found is one of them, and has the radix and the base asked for
-found_row : (radix base : ℕ) (ps : List Pair) (row : Pair) → AllTested ps → find_pair radix base ps ≡ some row → IsPair row × (row.radix ≡ radix) × (row.base ≡ base)
+found_row : (radix base : ℕ) (ps : List Pair) (row : Pair) → AllTested ps → find_pair radix base ps ≡ Some row → IsPair row × (row.radix ≡ radix) × (row.base ≡ base)
 unfolding find_pair
 found_row radix base [] row all e = absurd (none_some row e)
 found_row radix base (p ∷ ps) row all e = go (eqb p.radix radix) refl (eqb p.base base) refl (found_row radix base ps row all.1) e
   where
-    go : (a : Bool) → eqb p.radix radix ≡ a → (b : Bool) → eqb p.base base ≡ b → (find_pair radix base ps ≡ some row → IsPair row × (row.radix ≡ radix) × (row.base ≡ base))
-        → cond (a && b) (some p) (find_pair radix base ps) ≡ some row → IsPair row × (row.radix ≡ radix) × (row.base ≡ base)
+    go : (a : Bool) → eqb p.radix radix ≡ a → (b : Bool) → eqb p.base base ≡ b → (find_pair radix base ps ≡ Some row → IsPair row × (row.radix ≡ radix) × (row.base ≡ base))
+        → cond (a && b) (Some p) (find_pair radix base ps) ≡ Some row → IsPair row × (row.radix ≡ radix) × (row.base ≡ base)
     go true q true r more e =
         let same : p ≡ row = cc in
         subst (λ (x : Pair). IsPair x × (x.radix ≡ radix) × (x.base ≡ base)) same (tested p all.0, eqb-true p.radix radix q, eqb-true p.base base r)
@@ -127,11 +127,11 @@ good_byte radix x e =
       off = (neither (eqb x 45) _ c.1).1;
     }
 
-with_row : (F : NumberFormat) (o : Options) (found row : Pair) (more : List Check) → pair_of F ≡ some found → checked (reading_checks F o ++ more) (done found) ≡ done row → Readable F o row × Passed more
+with_row : (F : NumberFormat) (o : Options) (found row : Pair) (more : List Check) → pair_of F ≡ Some found → checked (reading_checks F o ++ more) (done found) ≡ done row → Readable F o row × Passed more
 unfolding pair_of bad_bytes
 with_row F o found row more q e =
     let k = passed (reading_checks F o ++ more) found row e in
-    let r = found_row F.mantissa_radix F.exponent_base pairs row all_tested (q ∙ ap some k.1) in
+    let r = found_row F.mantissa_radix F.exponent_base pairs row all_tested (q ∙ ap Some k.1) in
     let a = neither (bad_byte F.mantissa_radix o.decimal_point) _ k.0.1.0 in
     let b = neither (bad_byte F.mantissa_radix o.exponent) _ a.1 in (
       record {
@@ -151,8 +151,8 @@ unfolding reading_format
 readable F o row e = go (pair_of F) refl e
   where
     go : (p : Option Pair) → pair_of F ≡ p → checked_pair (reading_checks F o) p ≡ done row → Readable F o row
-    go none q e = absurd (refused_done 1 0 row e)
-    go (some found) q e = (with_row F o found row [] q e).0
+    go None q e = absurd (refused_done 1 0 row e)
+    go (Some found) q e = (with_row F o found row [] q e).0
 
 -- ---- a format that the writer admits
 pub record Writable (F : NumberFormat) (o : Options) (row : Pair) : Type 0 where
@@ -167,8 +167,8 @@ unfolding writing_format bad_counts
 writable F o row e = go (pair_of F) refl e
   where
     go : (p : Option Pair) → pair_of F ≡ p → checked_pair (reading_checks F o ++ writing_checks (bad_counts o) F o) p ≡ done row → Writable F o row
-    go none q e = absurd (refused_done 1 0 row e)
-    go (some found) q e =
+    go None q e = absurd (refused_done 1 0 row e)
+    go (Some found) q e =
         let k = with_row F o found row (writing_checks (bad_counts o) F o) q e in
         let a = neither (ltb most_count o.min_significant_digits) _ k.1.1.0 in
         let b = neither (ltb most_count o.max_significant_digits) _ a.1 in
@@ -195,5 +195,5 @@ writable_reads F o row e = go (pair_of F) e
         at false k q = k q
 
     go : (p : Option Pair) → checked_pair (reading_checks F o ++ writing_checks (bad_counts o) F o) p ≡ done row → checked_pair (reading_checks F o) p ≡ done row
-    go none e = e
-    go (some found) e = fewer (reading_checks F o) (writing_checks (bad_counts o) F o) found e
+    go None e = e
+    go (Some found) e = fewer (reading_checks F o) (writing_checks (bad_counts o) F o) found e

@@ -3,7 +3,7 @@ use Prim.Native.Nat.{ℕ, ◌+◌, ◌<◌}
 use mathlib.Core.Path.{◌≡◌, refl, ap, ◌∙◌}
 use mathlib.Core.Bool.{Bool, true, false, ◌&&◌}
 use mathlib.Core.List.{List}
-use mathlib.Core.Option.{some}
+use Rattle.std.specs.Prelude.{Some}
 use native.Mathlib.Numerals.{add-one}
 use native.Mathlib.Omega.{arith}
 use borrow.Author.Tests.{eqb-true}
@@ -26,9 +26,9 @@ module _ (radix base : ℕ) (rows : List Pair) (i : ℕ) (other : Pair) (inside 
   abbrev wanted : Bool
   wanted = eqb (get_or rows i other).radix radix && eqb (get_or rows i other).base base
 
-  pub find_here : wanted ≡ true → some (pair radix base (get_or rows i other).b (get_or rows i other).c) ≡ find_pair radix base (drop i rows)
+  pub find_here : wanted ≡ true → Some (pair radix base (get_or rows i other).b (get_or rows i other).c) ≡ find_pair radix base (drop i rows)
   unfolding find_pair
-  find_here e = ap some (rebuilt (get_or rows i other) radix base e) ∙ rw (drop-cons rows i other inside, e)
+  find_here e = ap Some (rebuilt (get_or rows i other) radix base e) ∙ rw (drop-cons rows i other inside, e)
 
   pub find_next : wanted ≡ false → find_pair radix base (drop i rows) ≡ find_pair radix base (drop (i + 1) rows)
   unfolding find_pair

@@ -1,16 +1,9 @@
 -- Formats, and the check of a format: document 01, "Formats" and refusals 1 to 6; document 02, 2.2 and refusal 16. Definitions only.
-use Rattle.std.specs.Prelude.{ℕ, zero, suc, Bool, not, cond, ◌&&◌, ◌||◌, List, [], ◌∷◌, ◌++◌, ltb, eqb, ℤ, pos, negsuc, neg_ℤ}
-use Rattle.std.proofs.Math.Option.{Option, none, some}
+use Rattle.std.specs.Prelude.{ℕ, zero, suc, Bool, not, cond, ◌&&◌, ◌||◌, List, [], ◌∷◌, ◌++◌, ltb, eqb, ℤ, pos, negsuc, neg_ℤ, Option, None, Some}
 use Rattle.std.specs.Int.Signed.{lt_z}
 use Rattle.lexical_util.specs.Answer.{Answer, done, refused, and_then, Check, checked}
 use Rattle.lexical_util.specs.Digit.{is_digit, is_radix, is_width}
 use Rattle.lexical_format.specs.declared.checks.CheckedFormat.{CheckedFormat}
-use Rattle.lexical_format.specs.declared.checks.ReadingCheck.{ReadingCheck}
-use Rattle.lexical_format.specs.declared.checks.ReadingCheck.TheVariants as reading
-use Rattle.lexical_format.specs.declared.checks.WritingCheck.{WritingCheck}
-use Rattle.lexical_format.specs.declared.checks.WritingCheck.TheVariants as writing
-use Rattle.lexical_format.specs.declared.format.FoundPair.{FoundPair}
-use Rattle.lexical_format.specs.declared.format.FoundPair.TheVariants.{Row, Unknown}
 use Rattle.lexical_format.specs.declared.format.Pair.{Pair}
 use Rattle.lexical_format.specs.declared.format.NumberFormat.{NumberFormat}
 use Rattle.lexical_format.specs.declared.options.Options.{Options}
@@ -26,8 +19,8 @@ pairs =
 
 -- the row of a radix and a base
 unfoldable pub find_pair : ℕ → ℕ → List Pair → Option Pair
-find_pair radix base [] = none
-find_pair radix base (p ∷ ps) = let others = find_pair radix base ps in cond (eqb p.radix radix && eqb p.base base) (some p) others
+find_pair radix base [] = None
+find_pair radix base (p ∷ ps) = let others = find_pair radix base ps in cond (eqb p.radix radix && eqb p.base base) (Some p) others
 
 unfoldable pub pair_of : NumberFormat → Option Pair
 pair_of F = find_pair F.mantissa_radix F.exponent_base pairs
@@ -93,8 +86,8 @@ writing_checks bad_count F o = (4, F.required_exponent_notation && F.no_exponent
 
 -- 1 pair unknown, then the others
 abbrev pub checked_pair : List Check → Option Pair → Answer Pair
-checked_pair checks none = refused 1 0
-checked_pair checks (some row) = checked checks (done row)
+checked_pair checks None = refused 1 0
+checked_pair checks (Some row) = checked checks (done row)
 
 -- the reader's 1, 2, 3
 unfoldable pub reading_format : NumberFormat → Options → Answer Pair
@@ -115,17 +108,3 @@ settled o row = record { b = row.b; c = row.c; negative_exponent_break = record 
 
 unfoldable pub checked_format : NumberFormat → Options → Answer CheckedFormat
 checked_format F o = and_then (writing_format F o) (λ row. done (settled o row))
-
--- the row that each case of `FoundPair` stands for
-abbrev pub of_found_pair : FoundPair → Option Pair
-of_found_pair (Row row) = some row
-of_found_pair Unknown = none
-
--- document 01's number and values for each case of `ReadingCheck` and `WritingCheck`
-abbrev pub of_reading_check : ReadingCheck → Answer Pair
-of_reading_check (reading.Passed row) = done row
-of_reading_check (reading.Refused r) = refused r.number r.place
-
-abbrev pub of_writing_check : WritingCheck → Answer CheckedFormat
-of_writing_check (writing.Passed f) = done f
-of_writing_check (writing.Refused r) = refused r.number r.place

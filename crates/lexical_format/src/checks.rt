@@ -1,20 +1,13 @@
 // The checks of a format, for which the Rust has assertions: document 01, refusals 1 to 6 in their order, and document 02, 16. The reader stops after 3.
 ghost use Rattle.std.specs.Prelude.{◌≡◌};
-ghost use Rattle.lexical_util.specs.Answer.{done, checked};
-ghost use Rattle.lexical_format.specs.Format.{bad_byte, bad_counts, or_absent, outside, reading_format, checked_format, settled, exponent_checks, writing_checks, of_reading_check, of_writing_check};
+ghost use Rattle.lexical_util.specs.Answer.{done, checked, of_result};
+ghost use Rattle.lexical_format.specs.Format.{bad_byte, bad_counts, or_absent, outside, reading_format, checked_format, settled, exponent_checks, writing_checks};
 ghost use Rattle.lexical_format.specs.Code.{bad_bytes_of, reading_of};
 
-use crate::format::{FoundPair, NumberFormat, Pair, find_pair};
+use crate::format::{NumberFormat, Pair, find_pair};
 use crate::options::Options;
 use lexical_exponent::{BitExponent, is_below};
-use lexical_util::{DigitValue, Refusal};
-
-// What the reader's check answers: the pair's row, or the first refusal.
-#[derive(Clone, Copy)]
-pub enum ReadingCheck {
-    Passed(Pair),
-    Refused(Refusal),
-}
+use lexical_util::{Reason, Refusal};
 
 // A format as the writer's later steps need it: b, c, and the breaks, none absent, in bits.
 #[derive(Clone, Copy)]
@@ -25,13 +18,6 @@ pub struct CheckedFormat {
     pub positive_exponent_break: BitExponent,
 }
 
-// What the writer's check answers: what its later steps need, or the first refusal.
-#[derive(Clone, Copy)]
-pub enum WritingCheck {
-    Passed(CheckedFormat),
-    Refused(Refusal),
-}
-
 // A byte that neither point nor mark may be: outside 33 to 126, "+", "-", or a digit of the radix.
 fn bad_byte(radix: u32, byte: u8) -> bool
     ensures { result ≡ bad_byte radix byte }
@@ -40,8 +26,8 @@ fn bad_byte(radix: u32, byte: u8) -> bool
         return true;
     }
     match lexical_util::digit_value(byte) {
-        DigitValue::Digit(digit) => (digit as u32) < radix,
-        DigitValue::NoDigit => false,
+        Some(digit) => (digit as u32) < radix,
+        None => false,
     }
 }
 
@@ -85,34 +71,26 @@ pub fn outside(least: BitExponent, most: BitExponent, value: BitExponent) -> boo
     is_below(value, least) || is_below(most, value)
 }
 
+#[tactic(auto, unfolding(crate::specs::Code::reading_of))]
 // 1, 2, 3, else the pair's row. It takes the five numbers that these look at, in registers: both checks call it, and a format and options handed on in memory would have to be stored first and loaded again.
-fn check_numbers(radix: u32, base: u32, power: u32, point: u8, mark: u8) -> ReadingCheck
-    ensures { of_reading_check result ≡ reading_of radix base power point mark }
+fn check_numbers(radix: u32, base: u32, power: u32, point: u8, mark: u8) -> Result<Pair, Refusal>
+    ensures { of_result result ≡ reading_of radix base power point mark }
 {
-    let FoundPair::Row(pair) = find_pair(radix, base) else {
-        return ReadingCheck::Refused(Refusal {
-            number: 1,
-            place: 0,
-        });
+    let Some(pair) = find_pair(radix, base) else {
+        return Err(Reason::UnknownPair.at(0));
     };
     if !lexical_util::is_radix(power) {
-        return ReadingCheck::Refused(Refusal {
-            number: 2,
-            place: 0,
-        });
+        return Err(Reason::UnknownRadix.at(0));
     }
     if bad_bytes(radix, point, mark) {
-        return ReadingCheck::Refused(Refusal {
-            number: 3,
-            place: 0,
-        });
+        return Err(Reason::BadByte.at(0));
     }
-    ReadingCheck::Passed(pair)
+    Ok(pair)
 }
 
 // The reader's check: 1, 2, 3, else the pair's row.
-pub fn check_reading(format: NumberFormat, options: Options) -> ReadingCheck
-    ensures { of_reading_check result ≡ reading_format format options }
+pub fn check_reading(format: NumberFormat, options: Options) -> Result<Pair, Refusal>
+    ensures { of_result result ≡ reading_format format options }
 {
     let radix = format.mantissa_radix;
     let base = format.exponent_base;
@@ -121,26 +99,20 @@ pub fn check_reading(format: NumberFormat, options: Options) -> ReadingCheck
 }
 
 // 6, 16 of a format that passed the checks before them, with the row.
-fn check_exponents(options: Options, row: Pair) -> WritingCheck
-    ensures { of_writing_check result ≡ checked (exponent_checks options) (done (settled options row)) }
+fn check_exponents(options: Options, row: Pair) -> Result<CheckedFormat, Refusal>
+    ensures { of_result result ≡ checked (exponent_checks options) (done (settled options row)) }
 {
     let low = or_absent(-5, options.negative_exponent_break);
     let high = or_absent(9, options.positive_exponent_break);
     if outside(BitExponent(LOWEST_BREAK), BitExponent(-1), low)
         || outside(BitExponent(1), BitExponent(HIGHEST_BREAK), high)
     {
-        return WritingCheck::Refused(Refusal {
-            number: 6,
-            place: 0,
-        });
+        return Err(Reason::BadBreak.at(0));
     }
     if !lexical_util::is_width(options.exponent_width) {
-        return WritingCheck::Refused(Refusal {
-            number: 16,
-            place: 0,
-        });
+        return Err(Reason::BadWidth.at(0));
     }
-    WritingCheck::Passed(CheckedFormat {
+    Ok(CheckedFormat {
         b: row.b,
         c: row.c,
         negative_exponent_break: low,
@@ -149,33 +121,29 @@ fn check_exponents(options: Options, row: Pair) -> WritingCheck
 }
 
 // 4, 5, 6, 16 of a format that passed the reader's check with the row.
-fn check_writing(format: NumberFormat, options: Options, row: Pair) -> WritingCheck
-    ensures { of_writing_check result ≡ checked (writing_checks (bad_counts options) format options) (done (settled options row)) }
+fn check_writing(
+    format: NumberFormat,
+    options: Options,
+    row: Pair,
+) -> Result<CheckedFormat, Refusal>
+    ensures { of_result result ≡ checked (writing_checks (bad_counts options) format options) (done (settled options row)) }
 {
     if format.required_exponent_notation && format.no_exponent_notation {
-        return WritingCheck::Refused(Refusal {
-            number: 4,
-            place: 0,
-        });
+        return Err(Reason::RequiredAndForbidden.at(0));
     }
     if bad_counts(options) {
-        return WritingCheck::Refused(Refusal {
-            number: 5,
-            place: 0,
-        });
+        return Err(Reason::BadCount.at(0));
     }
     check_exponents(options, row)
 }
 
 // The writer's check: the reader's, then 4, 5, 6, 16.
-pub fn check(format: NumberFormat, options: Options) -> WritingCheck
-    ensures { of_writing_check result ≡ checked_format format options }
+pub fn check(format: NumberFormat, options: Options) -> Result<CheckedFormat, Refusal>
+    ensures { of_result result ≡ checked_format format options }
 {
     let radix = format.mantissa_radix;
     let base = format.exponent_base;
     let power = format.exponent_radix;
-    match check_numbers(radix, base, power, options.decimal_point, options.exponent) {
-        ReadingCheck::Passed(row) => check_writing(format, options, row),
-        ReadingCheck::Refused(refusal) => WritingCheck::Refused(refusal),
-    }
+    let row = check_numbers(radix, base, power, options.decimal_point, options.exponent)?;
+    check_writing(format, options, row)
 }

@@ -1,6 +1,6 @@
 // The part of a format that the Rust packs into its u128 parameter FORMAT: document 01, "Formats".
 ghost use Rattle.std.specs.Prelude.{◌≡◌, ◌&&◌, ◌≤◌, eqb};
-ghost use Rattle.lexical_format.specs.Format.{pairs, find_pair, of_found_pair};
+ghost use Rattle.lexical_format.specs.Format.{pairs, find_pair};
 
 // A row of the table of pairs: a radix of b bits to a digit, and the base of the exponent, 2 to the power c.
 #[derive(Clone, Copy)]
@@ -20,13 +20,6 @@ pub struct NumberFormat {
     pub no_exponent_notation: bool,
     pub required_exponent_sign: bool,
     pub no_exponent_without_fraction: bool,
-}
-
-// The row of a radix and a base.
-#[derive(Clone, Copy)]
-pub(crate) enum FoundPair {
-    Row(Pair),
-    Unknown,
 }
 
 // The ten pairs: document 01, "One table lists the ten pairs with their two bit counts".
@@ -102,19 +95,15 @@ fn is_row(row: Pair, radix: u32, base: u32) -> bool
 }
 
 // The row of a radix and a base, by a search of the table.
-pub(crate) fn find_pair(radix: u32, base: u32) -> FoundPair
-    ensures { of_found_pair result ≡ find_pair radix base pairs }
+pub(crate) fn find_pair(radix: u32, base: u32) -> Option<Pair>
+    ensures { result ≡ find_pair radix base pairs }
 {
-    let rows = PAIRS;
-    let mut i = 0;
-    while i < 10 {
-        let row = rows[i];
+    for row in PAIRS {
         let b = row.b;
         let c = row.c;
         if is_row(row, radix, base) {
-            return FoundPair::Row(Pair { radix, base, b, c });
+            return Some(Pair { radix, base, b, c });
         }
-        i += 1;
     }
-    FoundPair::Unknown
+    None
 }

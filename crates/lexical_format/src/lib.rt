@@ -5,8 +5,6 @@ pub mod checks;
 pub mod format;
 pub mod options;
 
-pub use checks::{
-    CheckedFormat, MOST_COUNT, ReadingCheck, WritingCheck, check, check_reading, outside,
-};
+pub use checks::{CheckedFormat, MOST_COUNT, check, check_reading, outside};
 pub use format::{NumberFormat, Pair};
 pub use options::{Options, RoundMode};

@@ -3,7 +3,7 @@ use Prim.Native.Nat.{ℕ, zero, suc, ◌+◌, ◌-◌, ◌*◌, ◌≤◌, ◌<�
 use mathlib.Core.Path.{◌≡◌, refl, sym, ap, ◌∙◌, subst}
 use mathlib.Core.Bool.{Bool, true, false, ◌&&◌, and-true, and_assoc}
 use mathlib.Core.List.{List, [], ◌∷◌}
-use mathlib.Core.Option.{Option, none, some}
+use Rattle.std.specs.Prelude.{Option, None, Some}
 use mathlib.Core.Logic.{◌⊎◌, inl, inr}
 use native.Mathlib.Nat.{lt_of_not-le, mul-one, mul-le-mul_left}
 use native.Mathlib.Numerals.{add-one}
@@ -23,11 +23,11 @@ use Rattle.lexical_read_float.specs.Scan.{too_great}
 
 -- ---- the digit of a radix that a byte is, by a number that tells its digit value
 module _ (radix x d : ℕ) (small : radix ≤ 32) (is : IsDigitOrNone (digit_value x) d) where
-  pub digit_below : d < radix → digit_in radix x ≡ some d
+  pub digit_below : d < radix → digit_in radix x ≡ Some d
   unfolding digit_in
   digit_below h = rw (is.digit (omega arith), lt-ltb d radix h)
 
-  pub digit_above : radix ≤ d → digit_in radix x ≡ none
+  pub digit_above : radix ≤ d → digit_in radix x ≡ None
   unfolding digit_in
   digit_above h = elim (dec_le 32 d) [
     | yes g ↦ rw (is.no_digit g)
@@ -35,30 +35,30 @@ module _ (radix x d : ℕ) (small : radix ≤ 32) (is : IsDigitOrNone (digit_val
   ]
 
 -- ---- a number that tells a digit value, or that there is none
-pub tells_digit : (x d : ℕ) → digit_value x ≡ some d → d < 32 → IsDigitOrNone (digit_value x) d
+pub tells_digit : (x d : ℕ) → digit_value x ≡ Some d → d < 32 → IsDigitOrNone (digit_value x) d
 tells_digit x d e h = record { digit = λ l. e; no_digit = λ l. absurd (omega arith) }
 
-pub tells_none : (x d : ℕ) → digit_value x ≡ none → 32 ≤ d → IsDigitOrNone (digit_value x) d
+pub tells_none : (x d : ℕ) → digit_value x ≡ None → 32 ≤ d → IsDigitOrNone (digit_value x) d
 tells_none x d e h = record { digit = λ l. absurd (omega arith); no_digit = λ l. e }
 
 -- figures, and none for any other byte
-pub tells_figure : (x f : ℕ) → (57 < x → digit_value x ≡ none) → (48 ≤ x → x ≤ 57 → f ≡ x - 48) → (x < 48 → f ≡ 255) → (57 < x → f ≡ 255) → IsDigitOrNone (digit_value x) f
+pub tells_figure : (x f : ℕ) → (57 < x → digit_value x ≡ None) → (48 ≤ x → x ≤ 57 → f ≡ x - 48) → (x < 48 → f ≡ 255) → (57 < x → f ≡ 255) → IsDigitOrNone (digit_value x) f
 tells_figure x f above is low high = go (cases_lt x 48) (cases_lt 57 x)
   where
     go : (x < 48) ⊎ (48 ≤ x) → (57 < x) ⊎ (x ≤ 57) → IsDigitOrNone (digit_value x) f
     go (inl a) s = tells_none x f (value_low x a) (omega (arith, low a))
     go (inr a) (inl b) = tells_none x f (above b) (omega (arith, high b))
-    go (inr a) (inr b) = tells_digit x f (value_figure x a b ∙ ap some (sym (is a b))) (omega (arith, is a b))
+    go (inr a) (inr b) = tells_digit x f (value_figure x a b ∙ ap Some (sym (is a b))) (omega (arith, is a b))
 
 pub cons_nil : (d : ℕ) (ds : List ℕ) → d ∷ ds ≡ [] → ⊥
 cons_nil d ds e = let z : ◌≡◌ {A = ℕ} 0 1 = cc in omega arith
 
 -- ---- the digits from place i on
-got_more : (radix x d : ℕ) (xs : List ℕ) → digit_in radix x ≡ some d → (run radix (x ∷ xs)).got ≡ d ∷ (run radix xs).got
+got_more : (radix x d : ℕ) (xs : List ℕ) → digit_in radix x ≡ Some d → (run radix (x ∷ xs)).got ≡ d ∷ (run radix xs).got
 unfolding run
 got_more radix x d xs e = ap (λ (o : Option ℕ). (more x xs o (run radix xs)).got) e
 
-got_stop : (radix x : ℕ) (xs : List ℕ) → digit_in radix x ≡ none → (run radix (x ∷ xs)).got ≡ []
+got_stop : (radix x : ℕ) (xs : List ℕ) → digit_in radix x ≡ None → (run radix (x ∷ xs)).got ≡ []
 unfolding run
 got_stop radix x xs e = ap (λ (o : Option ℕ). (more x xs o (run radix xs)).got) e
 
@@ -66,11 +66,11 @@ module _ (radix : ℕ) (t : List ℕ) (i : ℕ) where
   at : (u : List ℕ) → drop i t ≡ u → digits_from radix t i ≡ (run radix u).got
   at u e = ap (λ (l : List ℕ). (run radix l).got) e
 
-  pub from_more : (d : ℕ) → i < length t → digit_in radix (get_or t i 0) ≡ some d → digits_from radix t i ≡ d ∷ digits_from radix t (i + 1)
+  pub from_more : (d : ℕ) → i < length t → digit_in radix (get_or t i 0) ≡ Some d → digits_from radix t i ≡ d ∷ digits_from radix t (i + 1)
   from_more d h e =
       at _ (drop-cons t i 0 h) ∙ got_more radix (get_or t i 0) d (drop (suc i) t) e ∙ ap (λ (j : ℕ). d ∷ digits_from radix t j) (sym (add-one i))
 
-  pub from_stop : i < length t → digit_in radix (get_or t i 0) ≡ none → digits_from radix t i ≡ []
+  pub from_stop : i < length t → digit_in radix (get_or t i 0) ≡ None → digits_from radix t i ≡ []
   from_stop h e = at _ (drop-cons t i 0 h) ∙ got_stop radix (get_or t i 0) (drop (suc i) t) e
 
   pub from_end : length t ≤ i → digits_from radix t i ≡ []
@@ -118,9 +118,9 @@ module _ (radix x : ℕ) (ds : List ℕ) (w : ℕ) (makes : min (read_on radix x
 or_zero : (a d : ℕ) → eqb (bit_or a d) 0 ≡ (eqb a 0 && eqb d 0)
 or_zero zero d = refl
 or_zero (suc n) d =
-    let some : bit_or (suc n) d ≡ 0 → ⊥ = λ e. let s = or_add_and (suc n) d in let l = and_le_r (suc n) d in omega arith in
+    let more_set : bit_or (suc n) d ≡ 0 → ⊥ = λ e. let s = or_add_and (suc n) d in let l = and_le_r (suc n) d in omega arith in
     let more : suc n ≡ 0 → ⊥ = λ e. omega arith in
-    rw (ne_eqb (bit_or (suc n) d) 0 some, ne_eqb (suc n) 0 more)
+    rw (ne_eqb (bit_or (suc n) d) 0 more_set, ne_eqb (suc n) 0 more)
 
 pub zeros_done : (seen : ℕ) (ds : List ℕ) (w : Bool) → (eqb seen 0 && all_zero ds) ≡ w → ds ≡ [] → eqb seen 0 ≡ w
 unfolding all_zero

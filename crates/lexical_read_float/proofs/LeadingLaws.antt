@@ -1,4 +1,5 @@
 -- What the code works out from a number's leading bits is what reading gives, refusal 11 included. One proof for both widths and both signs. Assumes nothing.
+use Rattle.std.specs.Prelude.{Some, None}
 use Prim.Native.Nat.{ℕ, ◌+◌, ◌*◌, ◌^◌, ◌≤◌, ◌<◌}
 use mathlib.Core.Path.{◌≡◌, refl, sym, ap, ap₂, ◌∙◌}
 use mathlib.Core.Bool.{Bool, true, false, cond}
@@ -17,7 +18,6 @@ use Rattle.lexical_read_float_spec.specs.Read.{float_of}
 use Rattle.lexical_read_float_spec.proofs.Edge.{dropped, keeps, too_large_is_infinite, not_too_large}
 use Rattle.lexical_read_float.specs.Guard.{Leading}
 use Rattle.lexical_read_float.specs.Pattern.{pattern, infinity}
-use Rattle.lexical_read_float.specs.declared.round.Rounded.TheVariants.{Bits, TooLarge}
 use Rattle.lexical_read_float.specs.Rounding.{of_rounded, rounded_bits}
 use Rattle.lexical_read_float.proofs.DropLaws.{drop_is, kept_is}
 use Rattle.lexical_read_float.proofs.PatternLaws.{round_bits, too_large_bits}
@@ -36,7 +36,7 @@ module _ (f : Format) (n k bits : ℕ) (clear : Bool) (i j : ℕ) (l : Leading n
   leading_float s = rw (← test_is, ← bits_are) (go (too_large f (n * 2 ^ i) (2 ^ j)) refl)
     where
       go : (b : Bool) → too_large f (n * 2 ^ i) (2 ^ j) ≡ b
-          → of_rounded f s (cond b TooLarge (Bits (dropped f (n * 2 ^ i) (2 ^ j) * hid f + keeps f (n * 2 ^ i) (2 ^ j)))) ≡ cond b (refused 11 0) (done (round f s (n * 2 ^ i) (2 ^ j)))
+          → of_rounded f s (cond b None (Some (dropped f (n * 2 ^ i) (2 ^ j) * hid f + keeps f (n * 2 ^ i) (2 ^ j)))) ≡ cond b (refused 11 0) (done (round f s (n * 2 ^ i) (2 ^ j)))
       go true e = refl
       go false e = ap done (sym (round_bits f s (n * 2 ^ i) (2 ^ j) (pow_pos j) e))
 

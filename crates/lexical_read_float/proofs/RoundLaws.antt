@@ -1,4 +1,5 @@
 -- The code's shifts, tests and sums on kept bits are the definitions of their rounding, which give what reading gives. One proof for both widths. Assumes nothing.
+use Rattle.std.specs.Prelude.{Option, Some, None}
 use Prim.Native.Nat.{ℕ, ◌+◌, ◌-◌, ◌*◌, ◌/◌, ◌%◌, ◌^◌, ◌≤◌, ◌<◌}
 use mathlib.Core.Path.{◌≡◌, refl, sym, ap}
 use mathlib.Core.Bool.{Bool, true, false, cond, and-false}
@@ -19,8 +20,6 @@ use Rattle.lexical_read_float.specs.Guard.{Leading, is_clear, guarded}
 use Rattle.lexical_read_float.specs.Pattern.{lift, below_guard, pattern, infinity}
 use Rattle.lexical_read_float.proofs.LeadingLaws.{leading_float, shifted_float, zero_float_lem}
 use Rattle.lexical_read_float.specs.declared.kept.Kept.{Kept}
-use Rattle.lexical_read_float.specs.declared.round.Rounded.{Rounded}
-use Rattle.lexical_read_float.specs.declared.round.Rounded.TheVariants.{Bits, TooLarge}
 use Rattle.lexical_read_float.specs.Kept.{full, IsFull, Holds}
 use Rattle.lexical_read_float.specs.Rounding.{of_rounded, IsFinite, rounded_bits}
 use Rattle.lexical_read_float.proofs.KeptLaws.{whole_is}
@@ -106,7 +105,7 @@ module _ (f : Format) (bits up down L : ℕ) (L-is : L ≡ lift f bits up down) 
   unfolding lift
   count_room w h e = let s = size_more bits 58 h in let p = prec_small f in omega arith
 
-  pub far_too_large : (clear : Bool) → 2046 < L → TooLarge ≡ rounded_bits f bits clear up down
+  pub far_too_large : (clear : Bool) → 2046 < L → None ≡ rounded_bits f bits clear up down
   unfolding rounded_bits pattern
   far_too_large clear h = rw (le-leb (infinity f) (pattern f bits clear up down) (le_trans (mul-le-mul_right (hid f) (rw (← L-is) (le_trans (ones_small f) h))) (le-add_right (lift f bits up down * hid f) _)))
 
@@ -118,13 +117,13 @@ module _ (f : Format) (bits up down L : ℕ) (L-is : L ≡ lift f bits up down) 
     mask_is : E.exponent_mask ≡ infinity f
     mask_is = rw is
 
-    pub too_large : (q : ℕ) → q ≡ guarded above rest → E.exponent_mask ≤ L * E.hidden_bit_mask + q → TooLarge ≡ rounded_bits f bits clear up down
+    pub too_large : (q : ℕ) → q ≡ guarded above rest → E.exponent_mask ≤ L * E.hidden_bit_mask + q → None ≡ rounded_bits f bits clear up down
     unfolding rounded_bits
     too_large q e h = rw (le-leb (infinity f) (pattern f bits clear up down) (rw (mask_is, pattern_is q e) at h))
 
-    pub in_range : (q : ℕ) → q ≡ guarded above rest → L * E.hidden_bit_mask + q < E.exponent_mask → Bits (L * E.hidden_bit_mask + q) ≡ rounded_bits f bits clear up down
+    pub in_range : (q : ℕ) → q ≡ guarded above rest → L * E.hidden_bit_mask + q < E.exponent_mask → Some (L * E.hidden_bit_mask + q) ≡ rounded_bits f bits clear up down
     unfolding rounded_bits
-    in_range q e h = rw (lt-leb (infinity f) (pattern f bits clear up down) (rw (mask_is, pattern_is q e) at h)) (ap Bits (pattern_is q e))
+    in_range q e h = rw (lt-leb (infinity f) (pattern f bits clear up down) (rw (mask_is, pattern_is q e) at h)) (ap Some (pattern_is q e))
 
 -- ---- what the kept bits give is what reading gives
 module _ (f : Format) (bits : ℕ) (clear : Bool) (up down : ℕ) where
@@ -132,18 +131,18 @@ module _ (f : Format) (bits : ℕ) (clear : Bool) (up down : ℕ) where
   unfolding rounded_bits
   bits_finite = go (leb (infinity f) (pattern f bits clear up down)) refl
     where
-      go : (b : Bool) → leb (infinity f) (pattern f bits clear up down) ≡ b → IsFinite f (cond b TooLarge (Bits (pattern f bits clear up down)))
+      go : (b : Bool) → leb (infinity f) (pattern f bits clear up down) ≡ b → IsFinite f (cond b None (Some (pattern f bits clear up down)))
       go true e = tt
       go false e = leb-false _ _ e
 
 long : (f : Format) (bits : ℕ) → full ≤ bits → 2 ^ prec f ≤ bits
 long f bits h = let p : prec f ≤ 58 = le_trans (prec_small f) (lit≤ tt) in le_trans (pow_mono p) h
 
-abbrev Answers : Format → Kept → ℕ → ℕ → Rounded → Type 0
+abbrev Answers : Format → Kept → ℕ → ℕ → Option ℕ → Type 0
 Answers f k up down r = ((s : Bool) (n : ℕ) → Holds n k → of_rounded f s r ≡ float_of f s (n * 2 ^ up) (2 ^ down)) × IsFinite f r
 
 module _ (f : Format) (k : Kept) (up down : ℕ) where
-  pub zero_kept : IsFull k → k.bits ≡ 0 → Answers f k up down (Bits 0)
+  pub zero_kept : IsFull k → k.bits ≡ 0 → Answers f k up down (Some 0)
   zero_kept is_full e =
       let z : k.below ≡ 0 = elim (eq-zero-or-pos k.below) [ inl e ↦ e | inr p ↦ absurd (let g = is_full p in omega arith) ] in
       (λ s n h. rw (whole_is n k.bits k.below k.clear z h.leads, e, zero-mul (2 ^ up)) (sym (zero_float_lem f s (2 ^ down) (pow_pos down))), some f)
@@ -152,7 +151,7 @@ module _ (f : Format) (k : Kept) (up down : ℕ) where
       some binary32 = omega arith
       some binary64 = omega arith
 
-  pub long_kept : (r : Rounded) → full ≤ k.bits → r ≡ rounded_bits f k.bits k.clear (k.below + up) down → Answers f k up down r
+  pub long_kept : (r : Option ℕ) → full ≤ k.bits → r ≡ rounded_bits f k.bits k.clear (k.below + up) down → Answers f k up down r
   long_kept r l is =
       rw is (
         λ s n h. leading_float f n k.below k.bits k.clear up down h.leads (long f k.bits l) s,
@@ -160,7 +159,7 @@ module _ (f : Format) (k : Kept) (up down : ℕ) where
       )
 
   -- nothing is below the bits: they are moved up by a shift
-  pub whole_kept : (r : Rounded) (shift x : ℕ) → k.below ≡ 0 → x ≡ k.bits * 2 ^ shift → full ≤ x → r ≡ rounded_bits f x true up (down + shift) → Answers f k up down r
+  pub whole_kept : (r : Option ℕ) (shift x : ℕ) → k.below ≡ 0 → x ≡ k.bits * 2 ^ shift → full ≤ x → r ≡ rounded_bits f x true up (down + shift) → Answers f k up down r
   whole_kept r shift x e x-is l is =
       let w : Leading x (2 ^ 0) x true = record { rest = 0; is = omega arith; small = pow_pos 0; none = λ t. refl; some = λ t. absurd t } in
       rw is (

@@ -3,7 +3,7 @@ use Prim.Native.Nat.{ℕ, suc, ◌+◌, ◌-◌, ◌≤◌, ◌<◌, min, ◌*�
 use mathlib.Core.Path.{◌≡◌, refl, sym, ap, ap₂, ◌∙◌, subst}
 use mathlib.Core.Bool.{Bool, true, false}
 use mathlib.Core.List.{List, [], ◌∷◌, ◌++◌, append-nil}
-use mathlib.Core.Option.{Option, none, some}
+use Rattle.std.specs.Prelude.{Option, None, Some, Result, Ok, Err}
 use native.Mathlib.Numerals.{add-one}
 use native.Mathlib.Omega.{arith}
 use borrow.Author.Tests.{eq-eqb, ne_eqb}
@@ -21,11 +21,9 @@ use Rattle.lexical_read_float_spec.proofs.RunLaws.{Head}
 use Rattle.lexical_read_float_spec.proofs.ParseLaws.{no_point}
 use Rattle.lexical_read_float.specs.declared.kept.Kept.{Kept}
 use Rattle.lexical_read_float.specs.declared.scan.Mantissa.{Mantissa}
-use Rattle.lexical_read_float.specs.declared.scan.ScannedTail.{ScannedTail}
-use Rattle.lexical_read_float.specs.declared.scan.ScannedTail.TheVariants as tail
-use Rattle.lexical_read_float.specs.declared.scan.Scanned.{Scanned}
-use Rattle.lexical_read_float.specs.declared.scan.Scanned.TheVariants as scanned
 use Rattle.lexical_read_float.specs.Kept.{empty, keep_digits}
+use Rattle.lexical_read_float.specs.declared.scan.Exponent.{Exponent}
+use Rattle.lexical_read_float.specs.declared.scan.Number.{Number}
 use Rattle.lexical_read_float.specs.Scan.{with_fraction, scanned_tail, scanned_number, scanned_shape, IsBounded, too_great}
 use Rattle.lexical_read_float.specs.Digits.{digits_from, end_from}
 use Rattle.lexical_read_float.proofs.KeptLaws.{keep_append}
@@ -41,8 +39,8 @@ left_got radix [] = refl
 left_got radix (x ∷ xs) = go (digit_in radix x) (left_got radix xs)
   where
     go : (o : Option ℕ) → (run radix xs).left ≡ drop (length (run radix xs).got) xs → (more x xs o (run radix xs)).left ≡ drop (length (more x xs o (run radix xs)).got) (x ∷ xs)
-    go none e = refl
-    go (some d) e = e
+    go None e = refl
+    go (Some d) e = e
 
 -- what is left behind the digits from a place on
 pub left_from : (radix : ℕ) (t : List ℕ) (from : ℕ) → (run radix (drop from t)).left ≡ drop (end_from radix t from) t
@@ -62,48 +60,48 @@ same_sign plus ds = refl
 same_sign minus ds = refl
 
 module _ (t : List ℕ) (radix : ℕ) (s : Sign) (from : ℕ) where
-  abbrev Wanted : List ℕ → List ℕ → ScannedTail
+  abbrev Wanted : List ℕ → List ℕ → Result Exponent ℕ
   Wanted g left = scanned_tail t radix (all_digits s g left)
 
-  none_there : (g left : List ℕ) → left ≡ drop (from + length g) t → from ≤ length t → from + length g ≡ from → tail.Wrong from ≡ Wanted g left
-  none_there [] left e h z = ap tail.Wrong (sym (ap (λ (l : List ℕ). length t - length l) e ∙ place_of t (from + 0) (let y : from + 0 ≤ length t = omega arith in y) ∙ (let y : from + 0 ≡ from = omega arith in y)))
+  none_there : (g left : List ℕ) → left ≡ drop (from + length g) t → from ≤ length t → from + length g ≡ from → Err from ≡ Wanted g left
+  none_there [] left e h z = ap Err (sym (ap (λ (l : List ℕ). length t - length l) e ∙ place_of t (from + 0) (let y : from + 0 ≤ length t = omega arith in y) ∙ (let y : from + 0 ≡ from = omega arith in y)))
   none_there (d ∷ ds) left e h z = absurd (omega arith)
 
-  more_there : (g left : List ℕ) → left ≡ drop (from + length g) t → (from + length g ≡ from → ⊥) → from + length g < length t → tail.Wrong (from + length g) ≡ Wanted g left
+  more_there : (g left : List ℕ) → left ≡ drop (from + length g) t → (from + length g ≡ from → ⊥) → from + length g < length t → Err (from + length g) ≡ Wanted g left
   more_there [] left e n h = absurd (n (let y : from + 0 ≡ from = omega arith in y))
   more_there (d ∷ ds) [] e n h = absurd (let y = ap (λ (l : List ℕ). length l) e ∙ length-drop (from + suc (length ds)) t in omega arith)
-  more_there (d ∷ ds) (x ∷ xs) e n h = ap tail.Wrong (sym (ap (λ (l : List ℕ). length t - length l) e ∙ place_of t (from + suc (length ds)) (let y : from + suc (length ds) ≤ length t = omega arith in y)))
+  more_there (d ∷ ds) (x ∷ xs) e n h = ap Err (sym (ap (λ (l : List ℕ). length t - length l) e ∙ place_of t (from + suc (length ds)) (let y : from + suc (length ds) ≤ length t = omega arith in y)))
 
   all_there : (g left : List ℕ) → left ≡ drop (from + length g) t → (from + length g ≡ from → ⊥) → from + length g ≡ length t
       → (n : Bool) (m : ℕ) → has_minus (exponent s []) ≡ n → m ≡ min (digits_value radix g) too_great
-      → tail.Found (record { power = record { 0 = n; 1 = m }; place = from }) ≡ Wanted g left
+      → Ok (record { power = record { 0 = n; 1 = m }; place = from }) ≡ Wanted g left
   unfolding exponent_place
   all_there [] left e z h n m p q = absurd (z (let y : from + 0 ≡ from = omega arith in y))
   all_there (d ∷ ds) (x ∷ xs) e z h n m p q = absurd (let y = ap (λ (l : List ℕ). length l) e ∙ length-drop (from + suc (length ds)) t in omega arith)
   all_there (d ∷ ds) [] e z h n m p q =
       let w : from ≡ length t - suc (length ds) = omega arith in
-      rw (sym p, q, w) (ap (λ (b : Bool). tail.Found (record { power = record { 0 = b; 1 = min (digits_value radix (d ∷ ds)) too_great }; place = length t - suc (length ds) })) (sym (same_sign s (d ∷ ds))))
+      rw (sym p, q, w) (ap (λ (b : Bool). Ok (record { power = record { 0 = b; 1 = min (digits_value radix (d ∷ ds)) too_great }; place = length t - suc (length ds) })) (sym (same_sign s (d ∷ ds))))
 
   -- the same of the digits from that place on
   left_is : (run radix (drop from t)).left ≡ drop (end_from radix t from) t
   left_is = left_from radix t from
 
-  pub digits_none : from ≤ length t → end_from radix t from ≡ from → tail.Wrong from ≡ scanned_tail t radix (exponent_digits radix s (drop from t))
+  pub digits_none : from ≤ length t → end_from radix t from ≡ from → Err from ≡ scanned_tail t radix (exponent_digits radix s (drop from t))
   digits_none h z = none_there (digits_from radix t from) _ left_is h z
 
-  pub digits_more : (end : ℕ) → end ≡ end_from radix t from → (end ≡ from → ⊥) → end < length t → tail.Wrong end ≡ scanned_tail t radix (exponent_digits radix s (drop from t))
-  digits_more end e n h = ap tail.Wrong e ∙ more_there (digits_from radix t from) _ left_is (λ z. n (e ∙ z)) (subst (λ (k : ℕ). k < length t) e h)
+  pub digits_more : (end : ℕ) → end ≡ end_from radix t from → (end ≡ from → ⊥) → end < length t → Err end ≡ scanned_tail t radix (exponent_digits radix s (drop from t))
+  digits_more end e n h = ap Err e ∙ more_there (digits_from radix t from) _ left_is (λ z. n (e ∙ z)) (subst (λ (k : ℕ). k < length t) e h)
 
   pub digits_all : (end : ℕ) → end ≡ end_from radix t from → (end ≡ from → ⊥) → end ≡ length t
       → (n : Bool) (m : ℕ) → has_minus (exponent s []) ≡ n → m ≡ min (digits_value radix (digits_from radix t from)) too_great
-      → tail.Found (record { power = record { 0 = n; 1 = m }; place = from }) ≡ scanned_tail t radix (exponent_digits radix s (drop from t))
+      → Ok (record { power = record { 0 = n; 1 = m }; place = from }) ≡ scanned_tail t radix (exponent_digits radix s (drop from t))
   digits_all end e n h b m p q = all_there (digits_from radix t from) _ left_is (λ z. n (e ∙ z)) (sym e ∙ h) b m p q
 
 -- ---- behind the mark
 module _ (t : List ℕ) (radix from : ℕ) where
-  pub sign_missing : from ≡ length t → tail.Wrong from ≡ scanned_tail t radix (signed_exponent radix (drop from t))
+  pub sign_missing : from ≡ length t → Err from ≡ scanned_tail t radix (signed_exponent radix (drop from t))
   unfolding signed_exponent
-  sign_missing e = rw (at_end t from e) (ap tail.Wrong (let z : from ≡ length t - 0 = omega arith in z))
+  sign_missing e = rw (at_end t from e) (ap Err (let z : from ≡ length t - 0 = omega arith in z))
 
   pub sign_plus : from < length t → get_or t from 0 ≡ 43 → signed_exponent radix (drop from t) ≡ exponent_digits radix plus (drop (from + 1) t)
   unfolding signed_exponent
@@ -119,14 +117,14 @@ module _ (t : List ℕ) (radix from : ℕ) where
 
 -- ---- behind the mantissa
 module _ (t : List ℕ) (G : Grammar) (from : ℕ) where
-  pub tail_absent : from ≡ length t → tail.Found (record { power = record { 0 = false; 1 = 0 }; place = length t }) ≡ scanned_tail t G.exponent_radix (parse_tail G (drop from t))
+  pub tail_absent : from ≡ length t → Ok (record { power = record { 0 = false; 1 = 0 }; place = length t }) ≡ scanned_tail t G.exponent_radix (parse_tail G (drop from t))
   unfolding parse_tail exponent_place
   tail_absent e = rw (at_end t from e)
 
-  pub tail_wrong : from < length t → (get_or t from 0 ≡ G.mark → ⊥) → tail.Wrong from ≡ scanned_tail t G.exponent_radix (parse_tail G (drop from t))
+  pub tail_wrong : from < length t → (get_or t from 0 ≡ G.mark → ⊥) → Err from ≡ scanned_tail t G.exponent_radix (parse_tail G (drop from t))
   unfolding parse_tail
   tail_wrong h n =
-      ap tail.Wrong (sym (place_of t from (let z : from ≤ length t = omega arith in z)) ∙ ap (λ (l : List ℕ). length t - length l) (at_byte t from h))
+      ap Err (sym (place_of t from (let z : from ≤ length t = omega arith in z)) ∙ ap (λ (l : List ℕ). length t - length l) (at_byte t from h))
       ∙ sym (ap (λ (l : List ℕ). scanned_tail t G.exponent_radix (parse_tail G l)) (at_byte t from h) ∙ rw (ne_eqb _ G.mark n))
 
   pub tail_marked : from < length t → get_or t from 0 ≡ G.mark → parse_tail G (drop from t) ≡ signed_exponent G.exponent_radix (drop (from + 1) t)
@@ -172,13 +170,13 @@ sign_inside t false e = omega arith
 
 -- the sign n takes the bytes up to `from`; the digits g stand behind it, and what is left stands at their end
 module _ (t : List ℕ) (b : ℕ) (G : Grammar) (n : Bool) (from : ℕ) where
-  abbrev Whole : List ℕ → List ℕ → Scanned
+  abbrev Whole : List ℕ → List ℕ → Result Number ℕ
   Whole g left = scanned_shape t b G.exponent_radix (map_parsed (with_sign n) (one_or_more G g left))
 
-  empty_front : from ≤ length t → (g left : List ℕ) → left ≡ drop (from + length g) t → length g ≡ 0 → scanned.Wrong from ≡ Whole g left
+  empty_front : from ≤ length t → (g left : List ℕ) → left ≡ drop (from + length g) t → length g ≡ 0 → Err from ≡ Whole g left
   empty_front h [] left e z =
       let y : from + 0 ≡ from = omega arith in
-      ap scanned.Wrong (sym (ap (λ (l : List ℕ). length t - length l) (e ∙ ap (λ (k : ℕ). drop k t) y) ∙ place_of t from h))
+      ap Err (sym (ap (λ (l : List ℕ). length t - length l) (e ∙ ap (λ (k : ℕ). drop k t) y) ∙ place_of t from h))
   empty_front h (d ∷ ds) left e z = absurd (omega arith)
 
   plain_front : (g left : List ℕ) → (length g ≡ 0 → ⊥) → begins_with G.point left ≡ false
@@ -209,16 +207,16 @@ module _ (t : List ℕ) (b : ℕ) (G : Grammar) (n : Bool) (from : ℕ) where
     unfolding parse parse_unsigned
     begins = rw (← n-is, ← from_is)
 
-    abbrev Scan : Scanned
+    abbrev Scan : Result Number ℕ
     Scan = scanned_shape t b G.exponent_radix (parse G t)
 
-    by_front : (r : Scanned) → r ≡ Whole (digits_from G.radix t from) (run G.radix (drop from t)).left → r ≡ Scan
+    by_front : (r : Result Number ℕ) → r ≡ Whole (digits_from G.radix t from) (run G.radix (drop from t)).left → r ≡ Scan
     by_front r e = e ∙ ap (scanned_shape t b G.exponent_radix) (sym begins)
 
-    pub text_empty : end ≡ from → scanned.Wrong from ≡ Scan
+    pub text_empty : end ≡ from → Err from ≡ Scan
     text_empty z = by_front _ (empty_front (omega (arith, from_is, sign_inside t n n-is)) (digits_from G.radix t from) _ (left_from G.radix t from) (omega (arith, is, z)))
 
-    module _ (k : Kept) (begun : end ≡ from → ⊥) (kept : k ≡ keep_digits b empty (digits_from G.radix t from)) (m : Mantissa) (τ : ScannedTail)
+    module _ (k : Kept) (begun : end ≡ from → ⊥) (kept : k ≡ keep_digits b empty (digits_from G.radix t from)) (m : Mantissa) (τ : Result Exponent ℕ)
         (tail-is : τ ≡ scanned_tail t G.exponent_radix (parse_tail G (drop m.end t))) where
       some_there : length (digits_from G.radix t from) ≡ 0 → ⊥
       some_there y = begun (is ∙ (let z : from + length (digits_from G.radix t from) ≡ from = omega (arith, y) in z))
@@ -226,7 +224,7 @@ module _ (t : List ℕ) (b : ℕ) (G : Grammar) (n : Bool) (from : ℕ) where
       plain : begins_with G.point (drop end t) ≡ false → m ≡ with_fraction t G.radix b k end false → scanned_number n m.kept m.fraction τ ≡ Scan
       plain none_there e =
           by_front _
-          (ap₂ (λ (x : Mantissa) (y : ScannedTail). scanned_number n x.kept x.fraction y) e
+          (ap₂ (λ (x : Mantissa) (y : Result Exponent ℕ). scanned_number n x.kept x.fraction y) e
           (tail-is ∙ ap (λ (x : Mantissa). scanned_tail t G.exponent_radix (parse_tail G (drop x.end t))) e ∙ ap (λ (l : List ℕ). scanned_tail t G.exponent_radix (parse_tail G l)) (sym (left_at end is)))
           ∙ ap (λ (x : Kept). scanned_number n x (counted 0) (scanned_tail t G.exponent_radix (parse_tail G (run G.radix (drop from t)).left))) kept
           ∙ plain_front (digits_from G.radix t from) _ some_there (ap (begins_with G.point) (left_at end is) ∙ none_there))
@@ -236,7 +234,7 @@ module _ (t : List ℕ) (b : ℕ) (G : Grammar) (n : Bool) (from : ℕ) where
           let more = drop (end + 1) t in
           let ds = digits_from G.radix t (end + 1) in
           by_front _
-          (ap₂ (λ (x : Mantissa) (y : ScannedTail). scanned_number n x.kept x.fraction y) e
+          (ap₂ (λ (x : Mantissa) (y : Result Exponent ℕ). scanned_number n x.kept x.fraction y) e
           (tail-is ∙ ap (λ (x : Mantissa). scanned_tail t G.exponent_radix (parse_tail G (drop x.end t))) e ∙ ap (λ (l : List ℕ). scanned_tail t G.exponent_radix (parse_tail G l)) (sym (left_from G.radix t (end + 1))))
           ∙ ap (λ (x : Kept). scanned_number n x (counted (length ds)) (scanned_tail t G.exponent_radix (parse_tail G (run G.radix more).left)))
           (ap (λ (x : Kept). keep_digits b x ds) kept ∙ keep_append b empty (digits_from G.radix t from) ds)
@@ -249,9 +247,9 @@ module _ (t : List ℕ) (b : ℕ) (G : Grammar) (n : Bool) (from : ℕ) where
           go true there = pointed (begins_inside t end G.point h there) there
           go false none_there = plain none_there
 
-pub number_bounded : (n : Bool) (k : Kept) (fraction : DigitExponent) (τ : ScannedTail) (r : Scanned) → k.below ≤ 5 * longest_read → nat_abs fraction.0 ≤ longest_read → r ≡ scanned_number n k fraction τ → IsBounded r
+pub number_bounded : (n : Bool) (k : Kept) (fraction : DigitExponent) (τ : Result Exponent ℕ) (r : Result Number ℕ) → k.below ≤ 5 * longest_read → nat_abs fraction.0 ≤ longest_read → r ≡ scanned_number n k fraction τ → IsBounded r
 number_bounded n k fraction τ r h l e = subst IsBounded (sym e) (go τ)
   where
-    go : (τ : ScannedTail) → IsBounded (scanned_number n k fraction τ)
-    go (tail.Found x) = record { few_below = h; few_digits = l }
-    go (tail.Wrong place) = tt
+    go : (τ : Result Exponent ℕ) → IsBounded (scanned_number n k fraction τ)
+    go (Ok x) = record { few_below = h; few_digits = l }
+    go (Err place) = tt

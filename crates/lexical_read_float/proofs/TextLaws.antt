@@ -1,4 +1,5 @@
 -- A text in a format that passed the reader's check: what the scan of it says of its shape, and what its bits stand for. Assumes nothing.
+use Rattle.std.specs.Prelude.{Result, Ok, Err}
 use Prim.Native.Nat.{ℕ, ◌-◌, ◌^◌, ◌≤◌, ◌<◌}
 use mathlib.Core.Path.{◌≡◌, refl, sym, ap, ◌∙◌, subst}
 use mathlib.Core.List.{List, ◌++◌}
@@ -7,16 +8,15 @@ use borrow.Author.Tests.{lt-ltb, le-ltb}
 use lib.ListN.{length}
 use lib.Pow.{pow_mono}
 use lib.Ieee.{Float, Format}
-use Rattle.lexical_util.specs.Answer.{Answer, done, refused, and_then}
+use Rattle.lexical_util.specs.Answer.{Answer, done, refused, and_then, of_result}
+use Rattle.lexical_util.specs.Reason.{reason_number}
 use Rattle.lexical_util.specs.declared.answer.Refusal.{Refusal}
 use Rattle.lexical_util.specs.Digit.{AreDigits}
 use Rattle.lexical_util.proofs.RadixLaws.{radix_bounds}
 use Rattle.lexical_format.specs.declared.format.Pair.{Pair}
 use Rattle.lexical_format.specs.declared.format.NumberFormat.{NumberFormat}
 use Rattle.lexical_format.specs.declared.options.Options.{Options}
-use Rattle.lexical_format.specs.declared.checks.ReadingCheck.{ReadingCheck}
-use Rattle.lexical_format.specs.declared.checks.ReadingCheck.TheVariants.{Passed, Refused}
-use Rattle.lexical_format.specs.Format.{reading_format, of_reading_check}
+use Rattle.lexical_format.specs.Format.{reading_format}
 use Rattle.lexical_format.proofs.FormatLaws.{readable}
 use Rattle.lexical_read_float_spec.specs.Shape.{Shape}
 use Rattle.lexical_read_float_spec.specs.Parse.{Parsed, found, stuck, parse, of_parsed, shape_of}
@@ -25,10 +25,7 @@ use Rattle.lexical_read_float_spec.specs.Claims.{IsNearest, IsServed}
 use Rattle.lexical_read_float_spec.proofs.RunLaws.{digits_append}
 use Rattle.lexical_read_float_spec.proofs.ReadLaws.{found_is_printed, answer_nearest, texts_are_served}
 use Rattle.lexical_read_float.specs.declared.scan.Number.{Number}
-use Rattle.lexical_read_float.specs.declared.scan.Scanned.{Scanned}
-use Rattle.lexical_read_float.specs.declared.scan.Scanned.TheVariants as scanned
 use Rattle.lexical_read_float.specs.Scan.{number_of, scanned_shape}
-use Rattle.lexical_read_float.specs.declared.bits.FloatBits.{FloatBits}
 use Rattle.lexical_read_float.specs.Bits.{of_float_bits}
 use Rattle.lexical_read_float.specs.Kept.{IsFull}
 use Rattle.lexical_read_float.proofs.KeptLaws.{digits_full}
@@ -71,20 +68,20 @@ module _ (f : Format) (F : NumberFormat) (o : Options) (row : Pair) (t : List �
   unfolding read_text
   by_shape h = rw (le-ltb longest_read (length t) h)
 
-  module _ (r : Scanned) (is : r ≡ scanned_shape t row.b F.exponent_radix (parse (grammar_of F o) t)) (short : length t ≤ longest_read) where
-    pub text_wrong : (place : ℕ) → r ≡ scanned.Wrong place → refused 9 place ≡ read_text f (grammar_of F o) t row
+  module _ (r : Result Number ℕ) (is : r ≡ scanned_shape t row.b F.exponent_radix (parse (grammar_of F o) t)) (short : length t ≤ longest_read) where
+    pub text_wrong : (place : ℕ) → r ≡ Err place → refused 9 place ≡ read_text f (grammar_of F o) t row
     unfolding shape_of
     text_wrong place e = go (parse (grammar_of F o) t) refl (sym is ∙ e)
       where
-        go : (p : Parsed Shape) → parse (grammar_of F o) t ≡ p → scanned_shape t row.b F.exponent_radix p ≡ scanned.Wrong place → refused 9 place ≡ read_text f (grammar_of F o) t row
+        go : (p : Parsed Shape) → parse (grammar_of F o) t ≡ p → scanned_shape t row.b F.exponent_radix p ≡ Err place → refused 9 place ≡ read_text f (grammar_of F o) t row
         go (found s) q w = absurd (let z : ◌≡◌ {A = ℕ} 0 1 = cc in omega arith)
         go (stuck left) q w = let same : place ≡ length t - length left = cc in ap (refused 9) same ∙ sym (by_shape short ∙ ap (λ (x : Parsed Shape). and_then (of_parsed t x) (value_of f row F.exponent_radix t)) q)
 
-    pub text_found : (n : Number) → reading_format F o ≡ done row → r ≡ scanned.Found n → IsNumberOf f F o row t n
+    pub text_found : (n : Number) → reading_format F o ≡ done row → r ≡ Ok n → IsNumberOf f F o row t n
     unfolding shape_of
     text_found n admitted e = go (parse (grammar_of F o) t) refl (sym is ∙ e)
       where
-        go : (p : Parsed Shape) → parse (grammar_of F o) t ≡ p → scanned_shape t row.b F.exponent_radix p ≡ scanned.Found n → IsNumberOf f F o row t n
+        go : (p : Parsed Shape) → parse (grammar_of F o) t ≡ p → scanned_shape t row.b F.exponent_radix p ≡ Ok n → IsNumberOf f F o row t n
         go (stuck left) q w = absurd (let z : ◌≡◌ {A = ℕ} 0 1 = cc in omega arith)
         go (found s) q w =
             let same : n ≡ number_of t row.b F.exponent_radix s = cc in
@@ -114,13 +111,13 @@ module _ (f : Format) (F : NumberFormat) (o : Options) (t : List ℕ) where
   promised a e = (e, (subst (IsNearest f F o t) (sym e) (answer_nearest f F o t), subst (IsServed f F o t) (sym e) (texts_are_served f F o t)))
 
   -- ---- the answer of each width: the check's refusal, or from the bits that both share
-  module _ (c : ReadingCheck) (checked : of_reading_check c ≡ reading_format F o) where
-    pub passed : (row : Pair) → c ≡ Passed row → reading_format F o ≡ done row
-    passed row e = sym checked ∙ ap of_reading_check e
+  module _ (c : Result Pair Refusal) (checked : of_result c ≡ reading_format F o) where
+    pub passed : (row : Pair) → c ≡ Ok row → reading_format F o ≡ done row
+    passed row e = sym checked ∙ ap of_result e
 
-    pub said_refused : (w : Refusal) → c ≡ Refused w → (refused w.number w.place ≡ read_float f F o t) × (IsNearest f F o t (refused w.number w.place) × IsServed f F o t (refused w.number w.place))
-    said_refused w e = promised (refused w.number w.place) (read_refused w.number w.place (sym checked ∙ ap of_reading_check e))
+    pub said_refused : (w : Refusal) → c ≡ Err w → (refused (reason_number w.reason) w.place ≡ read_float f F o t) × (IsNearest f F o t (refused (reason_number w.reason) w.place) × IsServed f F o t (refused (reason_number w.reason) w.place))
+    said_refused w e = promised (refused (reason_number w.reason) w.place) (read_refused (reason_number w.reason) w.place (sym checked ∙ ap of_result e))
 
-    pub said : (row : Pair) → c ≡ Passed row → (r : FloatBits) → of_float_bits f r ≡ read_text f (grammar_of F o) t row
-        → (x : FloatBits) → r ≡ x → (of_float_bits f x ≡ read_float f F o t) × (IsNearest f F o t (of_float_bits f x) × IsServed f F o t (of_float_bits f x))
+    pub said : (row : Pair) → c ≡ Ok row → (r : Result ℕ Refusal) → of_float_bits f r ≡ read_text f (grammar_of F o) t row
+        → (x : Result ℕ Refusal) → r ≡ x → (of_float_bits f x ≡ read_float f F o t) × (IsNearest f F o t (of_float_bits f x) × IsServed f F o t (of_float_bits f x))
     said row p r is x e = promised (of_float_bits f x) (read_passed row (of_float_bits f x) (passed row p) (sym (ap (of_float_bits f) e) ∙ is))

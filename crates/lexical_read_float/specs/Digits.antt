@@ -1,13 +1,12 @@
 -- The digits in a text from a place on, as the code goes through them. No exported contract cites it. Definitions only.
-use Rattle.std.specs.Prelude.{ℕ, ◌+◌, ◌≤◌, ◌<◌, ◌≡◌, Bool, true, ◌&&◌, List, [], ◌∷◌, eqb, length, drop}
-use Rattle.std.proofs.Math.Option.{Option, none, some}
+use Rattle.std.specs.Prelude.{ℕ, ◌+◌, ◌≤◌, ◌<◌, ◌≡◌, Bool, true, ◌&&◌, List, [], ◌∷◌, eqb, length, drop, Option, None, Some}
 use Rattle.lexical_read_float_spec.specs.Parse.{run}
 use Rattle.lexical_read_float.specs.Kept.{full, keep_digits}
 
 -- d tells a digit value: below 32 it is that, and from 32 on there is none
 pub record IsDigitOrNone (v : Option ℕ) (d : ℕ) : Type 0 where
-  pub digit : d < 32 → v ≡ some d
-  pub no_digit : 32 ≤ d → v ≡ none
+  pub digit : d < 32 → v ≡ Some d
+  pub no_digit : 32 ≤ d → v ≡ None
 
 -- the digits from place i on, and where they end
 abbrev pub digits_from : ℕ → List ℕ → ℕ → List ℕ

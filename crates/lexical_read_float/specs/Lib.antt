@@ -5,4 +5,3 @@ pub mod Digits
 pub mod Scan
 pub mod Rounding
 pub mod Bits
-pub mod Answer

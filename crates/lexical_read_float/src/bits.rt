@@ -13,23 +13,17 @@ ghost use Rattle.lexical_read_float.specs.Pattern.{infinity};
 ghost use Rattle.lexical_read_float.specs.Rounding.{of_rounded, IsFinite};
 ghost use Rattle.lexical_read_float.specs.Bits.{of_float_bits, AreFinite, powers_of};
 
-use crate::round::{Rounded, round_kept};
-use crate::scan::{Number, Scanned, scan};
+use crate::round::round_kept;
+use crate::scan::{Number, scan};
 use lexical_exponent::{BitExponent, digits_in_bits, height_above, powers_in_bits};
 use lexical_float::{Width, encoding_of};
 use lexical_format::{NumberFormat, Options, Pair};
-use lexical_util::Refusal;
+use lexical_util::{Reason, Refusal};
 
 // The longest text that is read, and the greatest magnitude of an exponent: document 01, "Read a float".
 pub const LONGEST_READ: usize = 4096;
 
 pub(crate) const GREATEST_EXPONENT: u64 = 32767;
-
-#[derive(Clone, Copy)]
-pub(crate) enum FloatBits {
-    Bits(u64),
-    Refused(Refusal),
-}
 
 // The bits of a float with its sign, from those below it.
 fn signed_bits(bits: u64, negative: bool, width: Width) -> u64
@@ -44,17 +38,14 @@ fn signed_bits(bits: u64, negative: bool, width: Width) -> u64
 }
 
 // 11: too large, of the magnitude.
-fn rounded_bits(rounded: Rounded, negative: bool, width: Width) -> FloatBits
+fn rounded_bits(rounded: Option<u64>, negative: bool, width: Width) -> Result<u64, Refusal>
     requires { IsFinite (of_width width) rounded }
     ensures result_value { of_float_bits (of_width width) result ≡ of_rounded (of_width width) negative rounded }
     ensures finite { AreFinite (of_width width) result }
 {
     match rounded {
-        Rounded::Bits(bits) => FloatBits::Bits(signed_bits(bits, negative, width)),
-        Rounded::TooLarge => FloatBits::Refused(Refusal {
-            number: 11,
-            place: 0,
-        }),
+        Some(bits) => Ok(signed_bits(bits, negative, width)),
+        None => Err(Reason::TooLarge.at(0)),
     }
 }
 
@@ -80,7 +71,7 @@ fn powers_of(places: BitExponent, power: BitExponent) -> Powers
 }
 
 // The value of a text's numbers. 10 comes before the powers are formed. One call rounds, whatever the exponent's sign, so that the compiler puts it in place.
-fn value_bits(number: Number, row: Pair, width: Width) -> FloatBits
+fn value_bits(number: Number, row: Pair, width: Width) -> Result<u64, Refusal>
     requires { Bounded number × IsFull number.kept × (row.b ≤ 5) × (row.c ≤ 5) }
     ensures by_index { (t : List ℕ) (power : ℕ) (s : Shape) → AreDigits (2 ^ row.b) (s.whole ++ s.fraction) → number ≡ number_of t row.b power s → of_float_bits (of_width width) result ≡ value_of (of_width width) row power t s }
     ensures finite { AreFinite (of_width width) result }
@@ -90,10 +81,7 @@ fn value_bits(number: Number, row: Pair, width: Width) -> FloatBits
     let fraction = number.fraction;
     let power = exponent.power;
     if power.1 > GREATEST_EXPONENT {
-        return FloatBits::Refused(Refusal {
-            number: 10,
-            place: exponent.place,
-        });
+        return Err(Reason::ExponentTooGreat.at(exponent.place));
     }
     let places = digits_in_bits(fraction, row.b);
     let powers = powers_of(places, powers_in_bits(power, row.c));
@@ -108,23 +96,20 @@ pub(crate) fn text_bits(
     options: Options,
     row: Pair,
     width: Width,
-) -> FloatBits
+) -> Result<u64, Refusal>
     requires { reading_format format options ≡ done row }
     ensures result_value { of_float_bits (of_width width) result ≡ read_text (of_width width) (grammar_of format options) text.now row }
     ensures finite { AreFinite (of_width width) result }
 {
     if text.len() > LONGEST_READ {
-        return FloatBits::Refused(Refusal {
-            number: 12,
-            place: 0,
-        });
+        return Err(Reason::TooLong.at(0));
     }
     let radix = format.mantissa_radix;
     let power = format.exponent_radix;
     let point = options.decimal_point;
     let mark = options.exponent;
     match scan(text, radix, row.b, power, point, mark) {
-        Scanned::Found(number) => value_bits(number, row, width),
-        Scanned::Wrong(place) => FloatBits::Refused(Refusal { number: 9, place }),
+        Ok(number) => value_bits(number, row, width),
+        Err(place) => Err(Reason::WrongShape.at(place)),
     }
 }

@@ -66,8 +66,7 @@ fn leading_digits(text: &[u8], from: usize, radix: u32, b: u32, start: u64) -> L
     ensures { FilledBits radix b text.now from start result.end result.bits }
 {
     let mut bits = start;
-    let mut i = from;
-    while i < text.len() {
+    for i in from..text.len() {
         if bits >= 0x0400_0000_0000_0000 {
             return LeadingDigits { end: i, bits };
         }
@@ -76,9 +75,11 @@ fn leading_digits(text: &[u8], from: usize, radix: u32, b: u32, start: u64) -> L
             return LeadingDigits { end: i, bits };
         }
         bits = (bits << b) + digit as u64;
-        i += 1;
     }
-    LeadingDigits { end: i, bits }
+    LeadingDigits {
+        end: text.len(),
+        bits,
+    }
 }
 
 // The digits from a place on, below full bits: only whether all are 0 matters, and the bits that any of them has tell that at the end.
@@ -87,8 +88,7 @@ fn further_digits(text: &[u8], from: usize, radix: u32) -> FurtherDigits
     ensures { (result.end ≡ end_from radix text.now from) × (result.clear ≡ all_zero (digits_from radix text.now from)) × (result.end ≤ length text.now) }
 {
     let mut seen: u32 = 0;
-    let mut i = from;
-    while i < text.len() {
+    for i in from..text.len() {
         let digit = digit_or_none(text[i]);
         if digit >= radix {
             return FurtherDigits {
@@ -97,10 +97,9 @@ fn further_digits(text: &[u8], from: usize, radix: u32) -> FurtherDigits
             };
         }
         seen = seen | digit;
-        i += 1;
     }
     FurtherDigits {
-        end: i,
+        end: text.len(),
         clear: seen == 0,
     }
 }
@@ -158,14 +157,15 @@ pub(crate) fn exponent_digits(text: &[u8], from: usize, radix: u32) -> ExponentD
     ensures { (result.end ≡ end_from radix text.now from) × (result.magnitude ≡ min (digits_value radix (digits_from radix text.now from)) too_great) × (result.end ≤ length text.now) }
 {
     let mut magnitude: u32 = 0;
-    let mut i = from;
-    while i < text.len() {
+    for i in from..text.len() {
         let digit = digit_or_none(text[i]);
         if digit >= radix {
             return ExponentDigits { end: i, magnitude };
         }
         magnitude = saturated(magnitude * radix + digit);
-        i += 1;
     }
-    ExponentDigits { end: i, magnitude }
+    ExponentDigits {
+        end: text.len(),
+        magnitude,
+    }
 }

@@ -9,4 +9,4 @@ mod round;
 mod scan;
 
 pub use bits::LONGEST_READ;
-pub use read::{ReadF32, ReadF64, read_f32, read_f64};
+pub use read::read_float;

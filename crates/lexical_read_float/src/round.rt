@@ -12,13 +12,6 @@ use crate::kept::Kept;
 use lexical_exponent::{BitExponent, height_above, significant_bits};
 use lexical_float::{Width, encoding_of};
 
-// The bits of the nearest float, or that the number is too large for one.
-#[derive(Clone, Copy)]
-pub(crate) enum Rounded {
-    Bits(u64),
-    TooLarge,
-}
-
 // The n of a width whose least value is 2^-n.
 fn lowest_of(width: Width) -> u32
     ensures { result ≡ low (of_width width) }
@@ -78,8 +71,8 @@ fn to_nearest(bits: u64, clear: bool) -> u64
     half + 1
 }
 
-// The number is the bits and what is below them, times 2^up / 2^down. The bits of one that is too large reach the infinity's.
-fn round_bits(bits: u64, clear: bool, up: u32, down: u32, width: Width) -> Rounded
+// The bits of the float nearest to a number, which is the bits and what is below them, times 2^up / 2^down; none where it is too large for one: there the bits reach the infinity's.
+fn round_bits(bits: u64, clear: bool, up: u32, down: u32, width: Width) -> Option<u64>
     requires { (full ≤ bits) × (up ≤ 300000) × (down ≤ 300000) }
     ensures { result ≡ rounded_bits (of_width width) bits clear up down }
 {
@@ -87,7 +80,7 @@ fn round_bits(bits: u64, clear: bool, up: u32, down: u32, width: Width) -> Round
     let lift = lift_of(bits, up, down, width);
     // Above either width's field, so that the sums fit.
     if lift > 2046 {
-        return Rounded::TooLarge;
+        return None;
     }
     let count = down + lift - (up + lowest_of(width) + 1);
     let above = bits_above(bits, count);
@@ -95,13 +88,13 @@ fn round_bits(bits: u64, clear: bool, up: u32, down: u32, width: Width) -> Round
     let field = lift as u64 * encoding.hidden_bit_mask;
     let nearest = field + to_nearest(above, rest);
     if nearest >= encoding.exponent_mask {
-        return Rounded::TooLarge;
+        return None;
     }
-    Rounded::Bits(nearest)
+    Some(nearest)
 }
 
 // The number that the bits stand for, times 2^up / 2^down. Where nothing is below the bits, they are first moved up to the highest place.
-pub(crate) fn round_kept(kept: Kept, up: u32, down: u32, width: Width) -> Rounded
+pub(crate) fn round_kept(kept: Kept, up: u32, down: u32, width: Width) -> Option<u64>
     requires { IsFull kept × (kept.below ≤ 5 * longest_read) × (up ≤ 200000) × (down ≤ 200000) }
     ensures result_value { (s : Bool) (n : ℕ) → Holds n kept → of_rounded (of_width width) s result ≡ float_of (of_width width) s (n * 2 ^ up) (2 ^ down) }
     ensures finite { IsFinite (of_width width) result }
@@ -110,7 +103,7 @@ pub(crate) fn round_kept(kept: Kept, up: u32, down: u32, width: Width) -> Rounde
     let below = kept.below;
     let clear = kept.clear;
     if bits == 0 {
-        return Rounded::Bits(0);
+        return Some(0);
     }
     if below == 0 {
         let shift = 64 - significant_bits(bits);

@@ -1,9 +1,9 @@
-// The shape of a text, found in one pass, with the numbers that its parts spell; or the place of refusal 9.
+// The shape of a text, found in one pass, with the numbers that its parts spell; or, as an error, the place of refusal 9.
 ghost use Rattle.std.specs.Prelude.{◌≡◌, [], ℕ, ◌+◌, ◌*◌, ◌≤◌, ◌<◌, nat_abs, length, drop};
 ghost use Rattle.lexical_read_float_spec.specs.Shape.{Sign, exponent};
 ghost use Rattle.lexical_read_float_spec.specs.Parse.{begins_with, exponent_digits, signed_exponent, parse_tail, parse};
 ghost use Rattle.lexical_read_float_spec.specs.Read.{has_minus, longest_read};
-ghost use Rattle.lexical_read_float.specs.Scan.{grammar, with_fraction, scanned_tail, scanned_number, scanned_shape, IsBounded};
+ghost use Rattle.lexical_read_float.specs.Scan.{grammar, with_fraction, scanned_tail, scanned_shape, IsBounded};
 
 use crate::digits::{exponent_digits, mantissa_digits};
 use crate::kept::Kept;
@@ -17,12 +17,6 @@ pub(crate) struct Exponent {
     pub place: usize,
 }
 
-#[derive(Clone, Copy)]
-pub(crate) enum ScannedTail {
-    Found(Exponent),
-    Wrong(usize),
-}
-
 // What a text spells: whether "-" stands in front, its digits, how many of them stand behind the point, and its exponent.
 #[derive(Clone, Copy)]
 pub(crate) struct Number {
@@ -32,14 +26,13 @@ pub(crate) struct Number {
     pub exponent: Exponent,
 }
 
-#[derive(Clone, Copy)]
-pub(crate) enum Scanned {
-    Found(Number),
-    Wrong(usize),
-}
-
 // One or more exponent digits behind a place, and nothing behind them.
-fn scan_exponent_digits(text: &[u8], before: usize, radix: u32, negative: bool) -> ScannedTail
+fn scan_exponent_digits(
+    text: &[u8],
+    before: usize,
+    radix: u32,
+    negative: bool,
+) -> Result<Exponent, usize>
     requires { (before < length text.now) × (1 ≤ radix) × (radix ≤ 32) }
     ensures { (s : Sign) → has_minus (exponent s []) ≡ negative → result ≡ scanned_tail text.now radix (exponent_digits radix s (drop (before + 1) text.now)) }
 {
@@ -47,25 +40,25 @@ fn scan_exponent_digits(text: &[u8], before: usize, radix: u32, negative: bool) 
     let digits = exponent_digits(text, from, radix);
     let end = digits.end;
     if end == from {
-        return ScannedTail::Wrong(from);
+        return Err(from);
     }
     if end < text.len() {
-        return ScannedTail::Wrong(end);
+        return Err(end);
     }
-    ScannedTail::Found(Exponent {
+    Ok(Exponent {
         power: BaseExponent(negative, digits.magnitude as u64),
         place: from,
     })
 }
 
 // Behind the mark at a place: a "+" or "-" or neither, then the digits.
-fn scan_exponent(text: &[u8], at: usize, radix: u32) -> ScannedTail
+fn scan_exponent(text: &[u8], at: usize, radix: u32) -> Result<Exponent, usize>
     requires { (at < length text.now) × (1 ≤ radix) × (radix ≤ 32) }
     ensures { result ≡ scanned_tail text.now radix (signed_exponent radix (drop (at + 1) text.now)) }
 {
     let next = at + 1;
     if next == text.len() {
-        return ScannedTail::Wrong(next);
+        return Err(next);
     }
     let byte = text[next];
     if byte == b'+' {
@@ -78,35 +71,20 @@ fn scan_exponent(text: &[u8], at: usize, radix: u32) -> ScannedTail
 }
 
 // Behind the mantissa: nothing, or the mark and an exponent.
-fn scan_tail(text: &[u8], from: usize, radix: u32, mark: u8) -> ScannedTail
+fn scan_tail(text: &[u8], from: usize, radix: u32, mark: u8) -> Result<Exponent, usize>
     requires { (from ≤ length text.now) × (1 ≤ radix) × (radix ≤ 32) }
     ensures { (mantissa_radix point : ℕ) → result ≡ scanned_tail text.now radix (parse_tail (grammar mantissa_radix radix point mark) (drop from text.now)) }
 {
     if from == text.len() {
-        return ScannedTail::Found(Exponent {
+        return Ok(Exponent {
             power: BaseExponent(false, 0),
             place: text.len(),
         });
     }
     if text[from] != mark {
-        return ScannedTail::Wrong(from);
+        return Err(from);
     }
     scan_exponent(text, from, radix)
-}
-
-// The sign and the mantissa's digits with what stands behind them.
-fn with_tail(negative: bool, kept: Kept, fraction: DigitExponent, tail: ScannedTail) -> Scanned
-    ensures { result ≡ scanned_number negative kept fraction tail }
-{
-    match tail {
-        ScannedTail::Found(exponent) => Scanned::Found(Number {
-            negative,
-            kept,
-            fraction,
-            exponent,
-        }),
-        ScannedTail::Wrong(place) => Scanned::Wrong(place),
-    }
 }
 
 // Whether a byte stands at a place.
@@ -160,7 +138,7 @@ pub(crate) fn scan(
     exponent_radix: u32,
     point: u8,
     mark: u8,
-) -> Scanned
+) -> Result<Number, usize>
     requires { (length text.now ≤ longest_read) × (radix ≤ 32) × (b ≤ 5) × (1 ≤ exponent_radix) × (exponent_radix ≤ 32) }
     ensures value { result ≡ scanned_shape text.now b exponent_radix (parse (grammar radix exponent_radix point mark) text.now) }
     ensures bounded { IsBounded result }
@@ -176,11 +154,16 @@ pub(crate) fn scan(
     let end = whole.end;
     let kept = whole.kept;
     if end == sign {
-        return Scanned::Wrong(sign);
+        return Err(sign);
     }
     let mantissa = with_fraction(text, end, radix, b, point, kept);
     let all = mantissa.kept;
     let fraction = mantissa.fraction;
-    let tail = scan_tail(text, mantissa.end, exponent_radix, mark);
-    with_tail(negative, all, fraction, tail)
+    let exponent = scan_tail(text, mantissa.end, exponent_radix, mark)?;
+    Ok(Number {
+        negative,
+        kept: all,
+        fraction,
+        exponent,
+    })
 }

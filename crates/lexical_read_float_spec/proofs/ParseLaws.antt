@@ -3,7 +3,7 @@ use Prim.Native.Nat.{ℕ, ◌+◌, ◌≤◌, ◌<◌}
 use mathlib.Core.Path.{◌≡◌, refl, ap, ◌∙◌}
 use mathlib.Core.Bool.{Bool, true, false}
 use mathlib.Core.List.{List, [], ◌∷◌, ◌++◌, map}
-use mathlib.Core.Option.{none}
+use Rattle.std.specs.Prelude.{None}
 use native.Mathlib.Omega.{arith}
 use native.Mathlib.Nat.{lt_of_lt_of_le}
 use borrow.Author.Tests.{eq-eqb, ne_eqb, ltb-true, ltb-false}
@@ -21,8 +21,8 @@ pub record Apart (G : Grammar) : Type 0 where
   pub radix_small : G.radix ≤ 32
   pub power_pos : 0 < G.exponent_radix
   pub power_small : G.exponent_radix ≤ 32
-  pub point_off : digit_in G.radix G.point ≡ none
-  pub mark_off : digit_in G.radix G.mark ≡ none
+  pub point_off : digit_in G.radix G.point ≡ None
+  pub mark_off : digit_in G.radix G.mark ≡ None
   pub differ : eqb G.mark G.point ≡ false
 
 -- a digit's byte is no sign

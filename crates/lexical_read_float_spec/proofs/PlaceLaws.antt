@@ -3,7 +3,7 @@ use Prim.Native.Nat.{ℕ, ◌+◌, ◌-◌, ◌≤◌, ◌<◌}
 use mathlib.Core.Path.{◌≡◌, refl, sym, ap, ◌∙◌, subst}
 use mathlib.Core.Bool.{Bool, true, false, cond}
 use mathlib.Core.List.{List, [], ◌∷◌, ◌++◌, map, append_assoc, append-nil}
-use mathlib.Core.Option.{Option, none, some}
+use Rattle.std.specs.Prelude.{Option, None, Some as Digit}
 use native.Mathlib.Omega.{arith}
 use native.Mathlib.Nat.{lt_of_lt_of_le}
 use borrow.Author.Tests.{eqb-true, eq-eqb}
@@ -92,7 +92,7 @@ module _ {A : Type 0} (radix : ℕ) (small : radix ≤ 32) (Q : List ℕ → Lis
         stays = λ x xs ys e.
             ap after_run (append_assoc front w.start (x ∷ ys))
             ∙ read (w.start ++ (x ∷ ys))
-            (same_head (λ y. digit_in radix y ≡ none) w.start x xs ys r.left (ap (λ (l : List ℕ). w.start ++ l) (sym e) ∙ w.splits) is.ends)
+            (same_head (λ y. digit_in radix y ≡ None) w.start x xs ys r.left (ap (λ (l : List ℕ). w.start ++ l) (sym e) ∙ w.splits) is.ends)
             ∙ w.stays x xs ys e;
       }
 
@@ -105,8 +105,8 @@ digit_no_sign radix small Q one [] h = tt
 digit_no_sign radix small Q one (x ∷ xs) h = go (digit_in radix x) refl
   where
     go : (o : Option ℕ) → digit_in radix x ≡ o → NoSign x
-    go none e = absurd (one (x ∷ xs) (subst (λ (r : Run). IsFound (Q r.got r.left)) (run_stops radix x xs e) h))
-    go (some d) e =
+    go None e = absurd (one (x ∷ xs) (subst (λ (r : Run). IsFound (Q r.got r.left)) (run_stops radix x xs e) h))
+    go (Digit d) e =
         let k = in_digit radix x d e in
         subst NoSign k.0 (byte_no_sign d (lt_of_lt_of_le k.1 small))
 
@@ -248,7 +248,7 @@ module _ (G : Grammar) (A : Apart G) where
       let Q : List ℕ → List ℕ → Parsed Shape = λ g u. map_parsed (with_tail whole true g) (parse_tail G u) in
       in_front (after_run G.radix A.radix_small Q) (after_whole G whole) G.point xs left (λ u. unfold after_whole in rw (eq-eqb G.point G.point refl))
       (after_run_lem G.radix A.radix_small Q xs left (run G.radix xs) (is_run G.radix xs)
-      (λ g u k. tail_head (λ y. digit_in G.radix y ≡ none) A.mark_off u (found_tail (with_tail whole true g) (parse_tail G u) k))
+      (λ g u k. tail_head (λ y. digit_in G.radix y ≡ None) A.mark_off u (found_tail (with_tail whole true g) (parse_tail G u) k))
       (mapped (with_tail whole true (run G.radix xs).got) (parse_tail G) (run G.radix xs).left left h))
 
   abbrev NoPoint : ℕ → Type 0
@@ -302,7 +302,7 @@ module _ (G : Grammar) (A : Apart G) where
       )
       found_is d ds left (stuck after) all e q h =
           after_run_lem G.radix A.radix_small (one_or_more G) t after (record { got = d ∷ ds; left = left }) (record { digits = all; ends = e; splits = q })
-          (whole_head (λ y. digit_in G.radix y ≡ none) A.mark_off A.point_off) h
+          (whole_head (λ y. digit_in G.radix y ≡ None) A.mark_off A.point_off) h
 
       go : (got left : List ℕ) → AreDigits G.radix got → Ends G.radix left → map digit_byte got ++ left ≡ t → OfUnsigned t (one_or_more G got left)
       go [] left all e q = record {

@@ -3,7 +3,7 @@ use Prim.Native.Nat.{ℕ, ◌-◌, ◌*◌, ◌≤◌, ◌<◌}
 use mathlib.Core.Path.{◌≡◌, refl, sym, ap, ◌∙◌, subst}
 use mathlib.Core.Bool.{Bool, true, false, cond}
 use mathlib.Core.List.{List}
-use mathlib.Core.Option.{Option, none, some}
+use Rattle.std.specs.Prelude.{Option, None, Some, is_some}
 use native.Mathlib.Omega.{arith}
 use native.Mathlib.Nat.{mul-pos}
 use borrow.Author.Tests.{lt-ltb, le-ltb, ne_eqb, eqb-false}
@@ -13,7 +13,7 @@ use lib.ListN.{length}
 use lib.Ieee.{Float, nan, inf, fin, Format, round}
 use lib.Ieee.Exact.{HasValue}
 use Rattle.lexical_util.specs.Answer.{Answer, done, refused, and_then}
-use Rattle.lexical_util.specs.Digit.{digit_in, is_some, is_digit}
+use Rattle.lexical_util.specs.Digit.{digit_in, is_digit}
 use Rattle.lexical_util.proofs.AnswerLaws.{refused_done}
 use Rattle.lexical_util.proofs.RadixLaws.{radix_bounds}
 use Rattle.lexical_float.specs.Sign.{sign_bit}
@@ -31,13 +31,13 @@ use Rattle.lexical_read_float_spec.proofs.ParseLaws.{Apart, print_sign, parse_pr
 use Rattle.lexical_read_float_spec.proofs.PlaceLaws.{found_prints, wrong_at}
 use Rattle.lexical_read_float_spec.proofs.NearestLaws.{round_nearest, only_nearest}
 
-no_digit : (radix x : ℕ) → is_digit radix x ≡ false → digit_in radix x ≡ none
+no_digit : (radix x : ℕ) → is_digit radix x ≡ false → digit_in radix x ≡ None
 unfolding is_digit
 no_digit radix x = go (digit_in radix x)
   where
-    go : (o : Option ℕ) → is_some o ≡ false → o ≡ none
-    go none e = refl
-    go (some d) e = absurd (let z : ◌≡◌ {A = ℕ} 0 1 = cc in omega arith)
+    go : (o : Option ℕ) → is_some o ≡ false → o ≡ None
+    go None e = refl
+    go (Some d) e = absurd (let z : ◌≡◌ {A = ℕ} 0 1 = cc in omega arith)
 
 -- the checks keep point, mark and digits apart
 pub apart : (F : NumberFormat) (o : Options) (row : Pair) → reading_format F o ≡ done row → Apart (grammar_of F o)

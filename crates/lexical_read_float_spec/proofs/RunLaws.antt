@@ -2,7 +2,7 @@
 use Prim.Native.Nat.{ℕ, ◌≤◌}
 use mathlib.Core.Path.{◌≡◌, refl, sym, ap, ap₂, ◌∙◌}
 use mathlib.Core.List.{List, [], ◌∷◌, ◌++◌, map, append-nil}
-use mathlib.Core.Option.{Option, none, some}
+use Rattle.std.specs.Prelude.{Option, None, Some}
 use Rattle.lexical_util.specs.Digit.{digit_byte, digit_in, AreDigits}
 use Rattle.lexical_util.proofs.DigitLaws.{digit_in_lem, in_digit}
 use Rattle.lexical_read_float_spec.specs.Parse.{Run, more, run}
@@ -14,9 +14,9 @@ Head First (x ∷ xs) = First x
 
 -- a text that begins with no digit
 abbrev pub Ends : ℕ → List ℕ → Type 0
-Ends radix t = Head (λ x. digit_in radix x ≡ none) t
+Ends radix t = Head (λ x. digit_in radix x ≡ None) t
 
-pub run_stops : (radix x : ℕ) (xs : List ℕ) → digit_in radix x ≡ none → run radix (x ∷ xs) ≡ record { got = []; left = x ∷ xs }
+pub run_stops : (radix x : ℕ) (xs : List ℕ) → digit_in radix x ≡ None → run radix (x ∷ xs) ≡ record { got = []; left = x ∷ xs }
 unfolding run
 run_stops radix x xs e = ap (λ (o : Option ℕ). more x xs o (run radix xs)) e
 
@@ -42,8 +42,8 @@ is_run radix [] = record { digits = tt; ends = tt; splits = refl }
 is_run radix (x ∷ xs) = go (digit_in radix x) refl (is_run radix xs)
   where
     go : (o : Option ℕ) → digit_in radix x ≡ o → IsRun radix xs (run radix xs) → IsRun radix (x ∷ xs) (more x xs o (run radix xs))
-    go none e r = record { digits = tt; ends = e; splits = refl }
-    go (some d) e r =
+    go None e r = record { digits = tt; ends = e; splits = refl }
+    go (Some d) e r =
         let k = in_digit radix x d e in
         record { digits = (k.1, r.digits); ends = r.ends; splits = ap₂ {A = ℕ} {B = List ℕ} (λ a l. a ∷ l) k.0 r.splits }
 

@@ -1,6 +1,5 @@
 -- The shape that a text has, or the place of refusal 9: document 01, "Reader" and "Read a float", with the sign of document 02, 2.3. Definitions only.
-use Rattle.std.specs.Prelude.{ℕ, ◌+◌, ◌-◌, ◌≤◌, ◌<◌, Bool, true, false, cond, List, [], ◌∷◌, eqb, length, take, drop}
-use Rattle.std.proofs.Math.Option.{Option, none, some}
+use Rattle.std.specs.Prelude.{ℕ, ◌+◌, ◌-◌, ◌≤◌, ◌<◌, Bool, true, false, cond, List, [], ◌∷◌, eqb, length, take, drop, Option, None, Some}
 use Rattle.lexical_util.specs.Answer.{Answer, done, refused}
 use Rattle.lexical_util.specs.Digit.{digit_in}
 use Rattle.lexical_float.specs.Sign.{minus_sign}
@@ -12,8 +11,8 @@ pub record Run : Type 0 where
   pub left : List ℕ
 
 abbrev pub more : ℕ → List ℕ → Option ℕ → Run → Run
-more x xs none r = record { got = []; left = x ∷ xs }
-more x xs (some d) r = record { got = d ∷ r.got; left = r.left }
+more x xs None r = record { got = []; left = x ∷ xs }
+more x xs (Some d) r = record { got = d ∷ r.got; left = r.left }
 
 unfoldable pub run : ℕ → List ℕ → Run
 run radix [] = record { got = []; left = [] }

@@ -1,192 +1,111 @@
 // A chain of stations: document 01, "Rewriting". Each station reads what the one before it wrote, up to the length returned, under that one's format. Nothing is written into the bytes lent before the last station.
 ghost use Rattle.std.specs.Prelude.{◌≡◌, ◌≤◌, ◌<◌, length, take, drop};
-ghost use Rattle.std.specs.Float.{binary32, binary64};
-ghost use Rattle.lexical_float.specs.Encoding.{of_width};
 ghost use Rattle.lexical_rewrite_spec.specs.Rewrite.{read_in, rewrite_answer, rewrite_bytes};
-ghost use Rattle.lexical_rewrite_spec.specs.Record.{format_of_record, formats_of};
+ghost use Rattle.lexical_rewrite_spec.specs.Record.{formats_of};
 ghost use Rattle.lexical_rewrite_spec.specs.Chain.{at_station, chain_of};
 ghost use Rattle.lexical_rewrite_spec.specs.Demand.{NeverLost};
 ghost use Rattle.lexical_rewrite.specs.Answer.{of_rewritten, of_chained};
-ghost use Rattle.lexical_rewrite.specs.Code.{on_from, source_at};
+ghost use Rattle.lexical_rewrite.specs.Code.{on_from};
 ghost use Rattle.lexical_write_float_spec.specs.Write.{longest_text};
 
 use crate::record::{RECORD_SIZE, format_of_record};
-use crate::rewrite::{Rewritten, rewrite_f32, rewrite_f64, write_read_f32, write_read_f64};
-use lexical_float::Width;
-use lexical_read_float::{read_f32, read_f64};
+use crate::rewrite::{RewriteRefusal, rewrite_float};
+use lexical_float::Float;
+use lexical_read_float::read_float;
 use lexical_rewrite_spec::TextFormat;
-use lexical_util::Refusal;
-use lexical_write_float::LONGEST_TEXT;
+use lexical_write_float::{LONGEST_TEXT, write_float};
 
-// The length of the last text; or a refusal of a station's reading or writing, with the station's number, counted from 0.
-#[derive(Clone, Copy)]
-pub enum Chained {
-    Length(usize),
-    ReadingRefused(usize, Refusal),
-    WritingRefused(usize, Refusal),
-}
-
-// What a chain answers where it ends with a station.
-fn at_station(station: usize, answer: Rewritten) -> Chained
-    ensures { of_chained result ≡ at_station station (of_rewritten answer) }
-{
-    match answer {
-        Rewritten::Length(count) => Chained::Length(count),
-        Rewritten::ReadingRefused(refusal) => Chained::ReadingRefused(station, refusal),
-        Rewritten::WritingRefused(refusal) => Chained::WritingRefused(station, refusal),
-    }
-}
-
-// One station, from the text lent into the bytes lent.
-fn station_into(
-    text: &[u8],
-    from: TextFormat,
-    to: TextFormat,
-    buffer: &mut [u8],
-    width: Width,
-) -> Rewritten
-    ensures result_value { of_rewritten result ≡ rewrite_answer to buffer.old (read_in (of_width width) from text.now) }
-    ensures buffer_after { buffer.new ≡ rewrite_bytes to buffer.old (read_in (of_width width) from text.now) }
-{
-    match width {
-        Width::Binary32 => rewrite_f32(text, from, to, buffer),
-        Width::Binary64 => rewrite_f64(text, from, to, buffer),
-    }
+// A refusal of a station's reading or writing, with the station's number, counted from 0.
+#[derive(Clone, Copy, Debug, PartialEq, Eq)]
+pub struct ChainRefusal {
+    pub station: usize,
+    pub refusal: RewriteRefusal,
 }
 
 // One station whose text stands in front of the bytes that it writes into.
-fn station_within(
+fn rewrite_within<F: Float>(
     buffer: &mut [u8],
     count: usize,
     from: TextFormat,
     to: TextFormat,
-    width: Width,
-) -> Rewritten
+) -> Result<usize, RewriteRefusal>
     requires { count ≤ length buffer.old }
-    ensures result_value { of_rewritten result ≡ rewrite_answer to buffer.old (read_in (of_width width) from (take count buffer.old)) }
-    ensures buffer_after { buffer.new ≡ rewrite_bytes to buffer.old (read_in (of_width width) from (take count buffer.old)) }
+    ensures result_value { of_rewritten result ≡ rewrite_answer to buffer.old (read_in F.format from (take count buffer.old)) }
+    ensures buffer_after { buffer.new ≡ rewrite_bytes to buffer.old (read_in F.format from (take count buffer.old)) }
 {
-    match width {
-        Width::Binary32 => {
-            let answer = read_f32(&buffer[..count], from.format, from.options);
-            write_read_f32(answer, to, buffer)
-        }
-        Width::Binary64 => {
-            let answer = read_f64(&buffer[..count], from.format, from.options);
-            write_read_f64(answer, to, buffer)
-        }
-    }
+    let x: F = read_float(&buffer[..count], from.format, from.options).map_err(
+        RewriteRefusal::Reading,
+    )?;
+    write_float(x, to.format, to.options, buffer).map_err(RewriteRefusal::Writing)
 }
 
-// The format of the record that begins at a place.
-fn format_at(bytes: &[u8], at: usize) -> TextFormat
-    requires { at ≤ length bytes.now }
-    ensures { result ≡ format_of_record (drop at bytes.now) }
+// What a chain answers where it ends with a station.
+fn at_station(station: usize, answer: Result<usize, RewriteRefusal>) -> Result<usize, ChainRefusal>
+    ensures { of_chained result ≡ at_station station (of_rewritten answer) }
 {
-    format_of_record(&bytes[at..])
+    answer.map_err(|refusal| ChainRefusal { station, refusal })
 }
 
-// The format of the text that the station of the record at a place reads: that of the station before it.
-fn source_at(first: TextFormat, further: &[u8], at: usize) -> TextFormat
-    requires { at ≤ length further.now }
-    ensures { result ≡ source_at first further.now at }
-{
-    if at < RECORD_SIZE {
-        return first;
-    }
-    let before = at - RECORD_SIZE;
-    format_at(further, before)
-}
-
-// The stations behind the first, once it has written into the scratch bytes: each but the last writes there too.
-fn chain_further(
-    scratch: &mut [u8],
+// The stations behind the first, once it has written into the scratch bytes: each but the last writes there too. A `while`, since the last of the records left is another station's, and may be cut off.
+fn chain_further<F: Float>(
+    scratch: &mut [u8; LONGEST_TEXT],
     written: usize,
     first: TextFormat,
     further: &[u8],
     buffer: &mut [u8],
-    width: Width,
-) -> Chained
-    requires { (length scratch.old ≡ longest_text) × (written ≤ longest_text) × (0 < length further.now) }
-    ensures result_value { of_chained result ≡ (on_from (of_width width) 1 first (take written scratch.old) further.now buffer.old).answer }
-    ensures buffer_after { buffer.new ≡ (on_from (of_width width) 1 first (take written scratch.old) further.now buffer.old).bytes }
+) -> Result<usize, ChainRefusal>
+    requires { (written ≤ longest_text) × (0 < length further.now) }
+    ensures result_value { of_chained result ≡ (on_from F.format 1 first (take written scratch.old) further.now buffer.old).answer }
+    ensures buffer_after { buffer.new ≡ (on_from F.format 1 first (take written scratch.old) further.now buffer.old).bytes }
 {
     let mut count = written;
     let mut station = 1;
-    let mut at = 0;
-    while further.len() - at > RECORD_SIZE {
-        let source = source_at(first, further, at);
-        let target = format_at(further, at);
-        match station_within(scratch, count, source, target, width) {
-            Rewritten::Length(next) => count = next,
-            Rewritten::ReadingRefused(refusal) => return Chained::ReadingRefused(station, refusal),
-            Rewritten::WritingRefused(refusal) => return Chained::WritingRefused(station, refusal),
-        }
+    let mut source = first;
+    let mut records = further;
+    while records.len() > RECORD_SIZE {
+        let target = format_of_record(records);
+        count = at_station(station, rewrite_within::<F>(scratch, count, source, target))?;
         station += 1;
-        at += RECORD_SIZE;
+        source = target;
+        records = &records[RECORD_SIZE..];
     }
-    let source = source_at(first, further, at);
-    let target = format_at(further, at);
-    let text = &scratch[..count];
-    at_station(station, station_into(text, source, target, buffer, width))
+    let last = format_of_record(records);
+    at_station(
+        station,
+        rewrite_float::<F>(&scratch[..count], source, last, buffer),
+    )
 }
 
 // The first station, and the further ones if there are any. Each but the last writes into bytes of the chain's own.
-fn chain(
+fn chain<F: Float>(
     text: &[u8],
     from: TextFormat,
     first: TextFormat,
     further: &[u8],
     buffer: &mut [u8],
-    width: Width,
-) -> Chained
-    ensures result_value { of_chained result ≡ (chain_of (of_width width) from text.now first (formats_of further.now) buffer.old).answer }
-    ensures buffer_after { buffer.new ≡ (chain_of (of_width width) from text.now first (formats_of further.now) buffer.old).bytes }
+) -> Result<usize, ChainRefusal>
+    ensures result_value { of_chained result ≡ (chain_of F.format from text.now first (formats_of further.now) buffer.old).answer }
+    ensures buffer_after { buffer.new ≡ (chain_of F.format from text.now first (formats_of further.now) buffer.old).bytes }
 {
-    if further.len() == 0 {
-        return at_station(0, station_into(text, from, first, buffer, width));
+    if further.is_empty() {
+        return at_station(0, rewrite_float::<F>(text, from, first, buffer));
     }
     let mut scratch = [0u8; LONGEST_TEXT];
-    match station_into(text, from, first, &mut scratch, width) {
-        Rewritten::Length(written) => chain_further(
-            &mut scratch,
-            written,
-            first,
-            further,
-            buffer,
-            width,
-        ),
-        Rewritten::ReadingRefused(refusal) => Chained::ReadingRefused(0, refusal),
-        Rewritten::WritingRefused(refusal) => Chained::WritingRefused(0, refusal),
-    }
+    let written = at_station(0, rewrite_float::<F>(text, from, first, &mut scratch))?;
+    chain_further::<F>(&mut scratch, written, first, further, buffer)
 }
 
-// The text in the format `from`, rewritten in the format `first`, then in that of each record of `further`, the last of which may be cut off. On a refusal the bytes lent are as they were.
-pub fn chain_f64(
+// The text in the format `from`, rewritten in the format `first`, then in that of each record of `further`, the last of which may be cut off, through a float of the width at each station. Each station but the last writes into bytes of the chain's own. On a refusal the bytes lent are as they were.
+pub fn chain_float<F: Float>(
     text: &[u8],
     from: TextFormat,
     first: TextFormat,
     further: &[u8],
     buffer: &mut [u8],
-) -> Chained
-    ensures result_value { of_chained result ≡ (chain_of binary64 from text.now first (formats_of further.now) buffer.old).answer }
-    ensures buffer_after { buffer.new ≡ (chain_of binary64 from text.now first (formats_of further.now) buffer.old).bytes }
-    ensures never_lost { NeverLost binary64 from text.now first (formats_of further.now) buffer.old (of_chained result) buffer.new }
+) -> Result<usize, ChainRefusal>
+    ensures result_value { of_chained result ≡ (chain_of F.format from text.now first (formats_of further.now) buffer.old).answer }
+    ensures buffer_after { buffer.new ≡ (chain_of F.format from text.now first (formats_of further.now) buffer.old).bytes }
+    ensures never_lost { NeverLost F.format from text.now first (formats_of further.now) buffer.old (of_chained result) buffer.new }
 {
-    chain(text, from, first, further, buffer, Width::Binary64)
-}
-
-// The same through an f32 at each station.
-pub fn chain_f32(
-    text: &[u8],
-    from: TextFormat,
-    first: TextFormat,
-    further: &[u8],
-    buffer: &mut [u8],
-) -> Chained
-    ensures result_value { of_chained result ≡ (chain_of binary32 from text.now first (formats_of further.now) buffer.old).answer }
-    ensures buffer_after { buffer.new ≡ (chain_of binary32 from text.now first (formats_of further.now) buffer.old).bytes }
-    ensures never_lost { NeverLost binary32 from text.now first (formats_of further.now) buffer.old (of_chained result) buffer.new }
-{
-    chain(text, from, first, further, buffer, Width::Binary32)
+    chain::<F>(text, from, first, further, buffer)
 }

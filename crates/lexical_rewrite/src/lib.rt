@@ -5,6 +5,6 @@ pub mod chain;
 pub mod record;
 pub mod rewrite;
 
-pub use chain::{Chained, chain_f32, chain_f64};
+pub use chain::{ChainRefusal, chain_float};
 pub use record::{RECORD_SIZE, format_of_record};
-pub use rewrite::{Rewritten, rewrite_f32, rewrite_f64};
+pub use rewrite::{RewriteRefusal, rewrite_float};

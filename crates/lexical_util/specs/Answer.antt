@@ -1,7 +1,7 @@
 -- What a call answers, and what a call that writes leaves in the bytes lent to it: document 01, "What each call returns". Definitions only.
-use Rattle.std.specs.Prelude.{ℕ, Bool, cond, List, [], ◌∷◌, ◌++◌, leb, length, drop}
-use Rattle.lexical_util.specs.declared.answer.Written.{Written}
-use Rattle.lexical_util.specs.declared.answer.Written.TheVariants.{Length, Refused}
+use Rattle.std.specs.Prelude.{Option, None, Some, ℕ, Bool, cond, List, [], ◌∷◌, ◌++◌, leb, length, drop, Result, Ok, Err}
+use Rattle.lexical_util.specs.declared.answer.Refusal.{Refusal}
+use Rattle.lexical_util.specs.Reason.{reason_number}
 
 -- what was asked for, or a refusal's number and place
 pub data Answer (A : Type 0) : Type 0 where
@@ -41,7 +41,16 @@ abbrev pub held : Answer (List ℕ) → List ℕ → List ℕ
 held (done text) out = bytes_in out text
 held (refused n p) out = out
 
--- document 01's number and values for each case of `Written`
-abbrev pub of_written : Written → Answer ℕ
-of_written (Length n) = done n
-of_written (Refused r) = refused r.number r.place
+-- document 01's numbers and values for what a call answers, where its values stand for others
+abbrev pub of_result_as : {A B : Type 0} → (A → B) → Result A Refusal → Answer B
+of_result_as value (Ok a) = done (value a)
+of_result_as value (Err r) = refused (reason_number r.reason) r.place
+
+-- and where they are those asked for
+abbrev pub of_result : {A : Type 0} → Result A Refusal → Answer A
+of_result = of_result_as (λ a. a)
+
+-- an answer where there is one, and else the refusal by this number
+abbrev pub some_or : {A : Type 0} → ℕ → Option A → Answer A
+some_or number (Some a) = done a
+some_or number None = refused number 0

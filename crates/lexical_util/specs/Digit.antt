@@ -1,8 +1,5 @@
 -- Digits as bytes and as numbers: document 01, "Integer digits" and "Reader". Definitions only.
-use Rattle.std.specs.Prelude.{ℕ, ◌+◌, ◌-◌, ◌*◌, ◌<◌, Bool, true, false, cond, ◌&&◌, ◌||◌, List, [], ◌∷◌, leb, ltb, eqb}
-use Rattle.std.proofs.Math.Option.{Option, none, some}
-use Rattle.lexical_util.specs.declared.digit.DigitValue.{DigitValue}
-use Rattle.lexical_util.specs.declared.digit.DigitValue.TheVariants.{Digit, NoDigit}
+use Rattle.std.specs.Prelude.{ℕ, ◌+◌, ◌-◌, ◌*◌, ◌<◌, Bool, cond, ◌&&◌, ◌||◌, List, [], ◌∷◌, leb, ltb, eqb, Option, None, Some, is_some}
 
 -- the radices of integers and of exponents: 2, 4, 8, 10, 16 or 32
 unfoldable pub is_radix : ℕ → Bool
@@ -25,20 +22,16 @@ digit_byte d = cond (ltb d 10) (48 + d) (55 + d)
 
 -- a byte's digit value: 0 to 9 for "0" to "9", 10 to 31 for "A" to "V"
 unfoldable pub digit_value : ℕ → Option ℕ
-digit_value x = cond (leb 48 x && leb x 57) (some (x - 48)) (cond (leb 65 x && leb x 86) (some (x - 55)) none)
+digit_value x = cond (leb 48 x && leb x 57) (Some (x - 48)) (cond (leb 65 x && leb x 86) (Some (x - 55)) None)
 
 -- below its radix
 abbrev pub below : ℕ → Option ℕ → Option ℕ
-below radix none = none
-below radix (some d) = cond (ltb d radix) (some d) none
+below radix None = None
+below radix (Some d) = cond (ltb d radix) (Some d) None
 
 -- the digit of the radix that a byte is, if it is one
 unfoldable pub digit_in : ℕ → ℕ → Option ℕ
 digit_in radix x = below radix (digit_value x)
-
-abbrev pub is_some : {A : Type 0} → Option A → Bool
-is_some none = false
-is_some (some a) = true
 
 unfoldable pub is_digit : ℕ → ℕ → Bool
 is_digit radix x = is_some (digit_in radix x)
@@ -60,8 +53,3 @@ read_on radix n (d ∷ ds) = read_on radix (n * radix + d) ds
 -- digits read in the radix
 abbrev pub digits_value : ℕ → List ℕ → ℕ
 digits_value radix ds = read_on radix 0 ds
-
--- the digit value that each case of `DigitValue` stands for
-abbrev pub of_digit_value : DigitValue → Option ℕ
-of_digit_value (Digit d) = some d
-of_digit_value NoDigit = none

@@ -1,3 +1,4 @@
+pub mod Reason
 pub mod Answer
 pub mod Digit
 pub mod Examples

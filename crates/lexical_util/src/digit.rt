@@ -1,21 +1,15 @@
 // Radices, least widths, and the digit that a byte stands for.
 ghost use Rattle.std.specs.Prelude.{◌≡◌};
-ghost use Rattle.lexical_util.specs.Digit.{digit_value, is_radix, is_width, digit_bits, of_digit_value};
-
-#[derive(Clone, Copy)]
-pub enum DigitValue {
-    Digit(u8),
-    NoDigit,
-}
+ghost use Rattle.lexical_util.specs.Digit.{digit_value, is_radix, is_width, digit_bits};
 
 // 0 to 9 for "0" to "9", 10 to 31 for "A" to "V"; no other byte is a digit of any radix.
-pub fn digit_value(byte: u8) -> DigitValue
-    ensures { of_digit_value result ≡ digit_value byte }
+pub fn digit_value(byte: u8) -> Option<u8>
+    ensures { result ≡ digit_value byte }
 {
     match byte {
-        b'0'..=b'9' => DigitValue::Digit(byte - b'0'),
-        b'A'..=b'V' => DigitValue::Digit(byte - b'A' + 10),
-        _ => DigitValue::NoDigit,
+        b'0'..=b'9' => Some(byte - b'0'),
+        b'A'..=b'V' => Some(byte - b'A' + 10),
+        _ => None,
     }
 }
 
@@ -23,10 +17,7 @@ pub fn digit_value(byte: u8) -> DigitValue
 pub fn is_radix(radix: u32) -> bool
     ensures { result ≡ is_radix radix }
 {
-    match radix {
-        2 | 4 | 8 | 10 | 16 | 32 => true,
-        _ => false,
-    }
+    matches!(radix, 2 | 4 | 8 | 10 | 16 | 32)
 }
 
 // A least width of digits is from 1 to 4: document 02, 2.2.

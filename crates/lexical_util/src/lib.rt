@@ -4,5 +4,5 @@
 pub mod answer;
 pub mod digit;
 
-pub use answer::{Refusal, Written};
-pub use digit::{DigitValue, digit_bits, digit_value, is_radix, is_width};
+pub use answer::{Reason, Refusal};
+pub use digit::{digit_bits, digit_value, is_radix, is_width};

@@ -8,4 +8,4 @@ mod plan;
 mod shared;
 mod write;
 
-pub use write::{LONGEST_TEXT, write_f32, write_f64};
+pub use write::{LONGEST_TEXT, write_float};

@@ -5,16 +5,13 @@ ghost use Rattle.lexical_write_float_spec.specs.Text.{zeros};
 ghost use Rattle.lexical_buffer.specs.Put.{Puts};
 
 use lexical_buffer::put_byte;
-use lexical_util::Written;
 
 pub(crate) fn put_zeros(buffer: &mut [u8], at: usize, count: usize) -> usize
     requires { at + count ≤ length buffer.old }
     ensures { Puts buffer.old at (zeros count) result buffer.new }
 {
-    let mut done: usize = 0;
-    while done < count {
-        buffer[at + done] = b'0';
-        done += 1;
+    for byte in &mut buffer[at..at + count] {
+        *byte = b'0';
     }
     at + count
 }
@@ -37,8 +34,8 @@ pub(crate) fn put_digits(
         &mut buffer[at..],
     );
     match written {
-        Written::Length(count) => at + count,
-        Written::Refused(_) => at,
+        Ok(count) => at + count,
+        Err(_) => at,
     }
 }
 

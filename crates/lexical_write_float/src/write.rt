@@ -1,6 +1,6 @@
 // Derived from `write_float` of lexical-write-float/src/binary.rs, for equal pairs, and hex.rs, for mixed ones, changed: one body over a float's parts for both widths and all ten pairs, and refusals for assertions.
 ghost use Rattle.std.specs.Prelude.{◌≡◌, List, ◌++◌, ℕ, ◌^◌, ◌≤◌, ◌<◌, nat_abs, length, drop};
-ghost use Rattle.lexical_util.specs.Answer.{done, written, held, of_written};
+ghost use Rattle.lexical_util.specs.Answer.{done, written, held, of_result};
 ghost use Rattle.lexical_float.specs.Sign.{minus_sign};
 ghost use Rattle.lexical_format.specs.declared.format.NumberFormat.{NumberFormat};
 ghost use Rattle.lexical_format.specs.declared.options.Options.{Options};
@@ -21,9 +21,9 @@ use lexical_exponent::{
     BitExponent, DigitExponent, Magnitude, base_exponent, calculate_shl, digit_exponent,
     places_before_point, sci_exp,
 };
-use lexical_float::{Parts, minus_length, parts_f32, parts_f64};
-use lexical_format::{CheckedFormat, NumberFormat, Options, WritingCheck};
-use lexical_util::{Refusal, Written};
+use lexical_float::{Float, Parts, minus_length};
+use lexical_format::{CheckedFormat, NumberFormat, Options};
+use lexical_util::{Reason, Refusal};
 use lexical_write_float_spec::Layout;
 
 // No text is longer: document 01, "Layout", and a byte for the sign, document 02, 2.3. A buffer of so many bytes serves every float, format and option.
@@ -128,7 +128,7 @@ fn write_value(
 }
 
 // The text of a finite float's magnitude, if there is room for it, and its length.
-fn write_float(
+fn write_magnitude(
     value: Magnitude,
     format: NumberFormat,
     options: Options,
@@ -164,30 +164,24 @@ fn write_signed(
     options: Options,
     checked: CheckedFormat,
     buffer: &mut [u8],
-) -> Written
+) -> Result<usize, Refusal>
     requires { Passed format options checked × FloatParts value }
-    ensures result_value { of_written result ≡ written (done (minus_sign negative ++ magnitude_text format options checked value)) buffer.old }
+    ensures result_value { of_result result ≡ written (done (minus_sign negative ++ magnitude_text format options checked value)) buffer.old }
     ensures buffer_after { buffer.new ≡ held (done (minus_sign negative ++ magnitude_text format options checked value)) buffer.old }
 {
     let sign = minus_length(negative);
     let room = buffer.len();
     if room < sign {
-        return Written::Refused(Refusal {
-            number: 8,
-            place: 0,
-        });
+        return Err(Reason::NoRoom.at(0));
     }
     let left = room - sign;
-    let count = write_float(value, format, options, checked, &mut buffer[sign..]);
+    let count = write_magnitude(value, format, options, checked, &mut buffer[sign..]);
     if count > left {
-        return Written::Refused(Refusal {
-            number: 8,
-            place: 0,
-        });
+        return Err(Reason::NoRoom.at(0));
     }
     put_minus(buffer, negative);
     let length = sign + count;
-    Written::Length(length)
+    Ok(length)
 }
 
 // The text of a float by its parts, in a format that passed the check; 7 where it is not finite.
@@ -197,49 +191,45 @@ fn write_checked(
     options: Options,
     checked: CheckedFormat,
     buffer: &mut [u8],
-) -> Written
+) -> Result<usize, Refusal>
     requires { Passed format options checked × OfFloat parts }
-    ensures result_value { of_written result ≡ written (parts_text format options checked parts) buffer.old }
+    ensures result_value { of_result result ≡ written (parts_text format options checked parts) buffer.old }
     ensures buffer_after { buffer.new ≡ held (parts_text format options checked parts) buffer.old }
 {
     match parts {
         Parts::Finite(negative, value) => {
             write_signed(negative, value, format, options, checked, buffer)
         }
-        Parts::Special => Written::Refused(Refusal {
-            number: 7,
-            place: 0,
-        }),
+        Parts::Special => Err(Reason::NotFinite.at(0)),
     }
 }
 
 // The same in any format, whose refusals come first. Both widths come here, and from here on every larger function is called from one place: the compiler makes one function of them.
-fn write_parts(parts: Parts, format: NumberFormat, options: Options, buffer: &mut [u8]) -> Written
+fn write_parts(
+    parts: Parts,
+    format: NumberFormat,
+    options: Options,
+    buffer: &mut [u8],
+) -> Result<usize, Refusal>
     requires { OfFloat parts }
-    ensures result_value { of_written result ≡ written (asked_by_parts format options parts) buffer.old }
+    ensures result_value { of_result result ≡ written (asked_by_parts format options parts) buffer.old }
     ensures buffer_after { buffer.new ≡ held (asked_by_parts format options parts) buffer.old }
 {
-    match lexical_format::check(format, options) {
-        WritingCheck::Passed(checked) => write_checked(parts, format, options, checked, buffer),
-        WritingCheck::Refused(refusal) => Written::Refused(refusal),
-    }
+    let checked = lexical_format::check(format, options)?;
+    write_checked(parts, format, options, checked, buffer)
 }
 
-// The text of a float under a format, or a refusal, which leaves every byte as it was.
-pub fn write_f64(x: f64, format: NumberFormat, options: Options, buffer: &mut [u8]) -> Written
-    ensures result_value { of_written result ≡ written (write_text format options x) buffer.old }
-    ensures buffer_after { buffer.new ≡ held (write_text format options x) buffer.old }
-    ensures longest { NoLonger (of_written result) }
-    ensures served { NeverRefused format options x buffer.old (of_written result) }
+// The text of a float of either width under a format, or a refusal, which leaves every byte as it was.
+pub fn write_float<F: Float>(
+    x: F,
+    format: NumberFormat,
+    options: Options,
+    buffer: &mut [u8],
+) -> Result<usize, Refusal>
+    ensures result_value { of_result result ≡ written (write_text format options (F.value x)) buffer.old }
+    ensures buffer_after { buffer.new ≡ held (write_text format options (F.value x)) buffer.old }
+    ensures longest { NoLonger (of_result result) }
+    ensures served { NeverRefused format options (F.value x) buffer.old (of_result result) }
 {
-    write_parts(parts_f64(x), format, options, buffer)
-}
-
-pub fn write_f32(x: f32, format: NumberFormat, options: Options, buffer: &mut [u8]) -> Written
-    ensures result_value { of_written result ≡ written (write_text format options x) buffer.old }
-    ensures buffer_after { buffer.new ≡ held (write_text format options x) buffer.old }
-    ensures longest { NoLonger (of_written result) }
-    ensures served { NeverRefused format options x buffer.old (of_written result) }
-{
-    write_parts(parts_f32(x), format, options, buffer)
+    write_parts(x.parts(), format, options, buffer)
 }

@@ -5,7 +5,7 @@ ghost use Rattle.lexical_write_integer_spec.specs.Write.{last_numeral};
 
 use crate::table::digit_to_char;
 
-// How many decimal digits value has.
+// How many decimal digits value has. A `while`, since it counts divisions and no index.
 pub(crate) fn decimal_count(value: u64) -> usize
     ensures { result ≡ length (digits 10 value) }
 {
@@ -23,10 +23,8 @@ pub(crate) fn decimal(value: u64, count: usize, buffer: &mut [u8])
     requires { count ≤ length buffer.old }
     ensures { buffer.new ≡ last_numeral 10 count value ++ drop count buffer.old }
 {
-    let mut i = count;
     let mut v = value;
-    while 0 < i {
-        i -= 1;
+    for i in (0..count).rev() {
         buffer[i] = digit_to_char((v % 10) as u8);
         v = v / 10;
     }

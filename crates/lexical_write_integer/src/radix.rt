@@ -19,7 +19,7 @@ fn odd_digit(value: u64, b: u32, count: usize, from: usize, buffer: &mut [u8]) -
     from
 }
 
-// From so many digits on to the last, two a step.
+// From so many digits on to the last, two a step. A `while`, here and below: `for at in (from..count).step_by(2)` is proved as well, and takes 24 instructions more of 310 for a number.
 fn radix(value: u64, b: u32, count: usize, from: usize, buffer: &mut [u8])
     requires { (0 < b) × (b ≤ 5) × (from ≤ count) × ((count - from) % 2 ≡ 0) × (b * (count - from - 1) < 64) × (count ≤ length buffer.old) }
     ensures { Grows (last_numeral (2 ^ b) count value) from count buffer.old buffer.new }

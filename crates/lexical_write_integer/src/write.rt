@@ -1,6 +1,6 @@
 // Derived from lexical-write-integer/src/write.rs, changed: radix and least width are arguments, and refusals stand for assertions.
 ghost use Rattle.std.specs.Prelude.{◌≡◌, true, ◌-◌, ◌*◌, ◌≤◌, ◌<◌, length};
-ghost use Rattle.lexical_util.specs.Answer.{written, held, of_written};
+ghost use Rattle.lexical_util.specs.Answer.{written, held, of_result};
 ghost use Rattle.lexical_util.specs.Digit.{is_radix, digit_bits};
 ghost use Rattle.lexical_write_integer_spec.specs.Front.{begun};
 ghost use Rattle.lexical_write_integer_spec.specs.Write.{last_numeral, digits_text};
@@ -8,7 +8,7 @@ ghost use Rattle.lexical_write_integer_spec.specs.Write.{last_numeral, digits_te
 use crate::count::digit_count;
 use crate::decimal::decimal;
 use crate::radix::radix_by_bits;
-use lexical_util::{Refusal, Written, digit_bits};
+use lexical_util::{Reason, Refusal, digit_bits};
 
 // The last count digits of value by the loop of the radix.
 fn write_digits(value: u64, base: u32, count: usize, buffer: &mut [u8])
@@ -23,29 +23,25 @@ fn write_digits(value: u64, base: u32, count: usize, buffer: &mut [u8])
 }
 
 // The digits of value in the radix, with zeros in front up to the least width; or a refusal, which leaves every byte as it was.
-pub fn write_integer(value: u64, radix: u32, width: u32, buffer: &mut [u8]) -> Written
-    ensures result_value { of_written result ≡ written (digits_text value radix width) buffer.old }
+pub fn write_integer(
+    value: u64,
+    radix: u32,
+    width: u32,
+    buffer: &mut [u8],
+) -> Result<usize, Refusal>
+    ensures result_value { of_result result ≡ written (digits_text value radix width) buffer.old }
     ensures buffer_after { buffer.new ≡ held (digits_text value radix width) buffer.old }
 {
     if !lexical_util::is_radix(radix) {
-        return Written::Refused(Refusal {
-            number: 2,
-            place: 0,
-        });
+        return Err(Reason::UnknownRadix.at(0));
     }
     if !lexical_util::is_width(width) {
-        return Written::Refused(Refusal {
-            number: 16,
-            place: 0,
-        });
+        return Err(Reason::BadWidth.at(0));
     }
     let count = digit_count(value, radix, width);
     if count > buffer.len() {
-        return Written::Refused(Refusal {
-            number: 8,
-            place: 0,
-        });
+        return Err(Reason::NoRoom.at(0));
     }
     write_digits(value, radix, count, buffer);
-    Written::Length(count)
+    Ok(count)
 }

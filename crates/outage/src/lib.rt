@@ -7,8 +7,8 @@ pub mod size;
 pub mod window;
 pub mod word;
 
-pub use header::{Count, header_count};
-pub use line::{Number, find, read_number};
+pub use header::header_count;
+pub use line::{find, read_number};
 pub use size::{FLOAT_SIZE, HEADER_SIZE, LONGEST_TABLE, MOST_WINDOWS, ROW_SIZE};
-pub use window::{CheckedWindow, check_window};
+pub use window::check_window;
 pub use word::word_of;

@@ -9,15 +9,10 @@ use crate::size::FLOAT_SIZE;
 pub fn word_of(bytes: &[u8]) -> u64
     ensures { result ≡ of_bytes (take float_size bytes.now) }
 {
-    let mut left = FLOAT_SIZE;
-    if bytes.len() < left {
-        left = bytes.len();
-    }
+    let count = FLOAT_SIZE.min(bytes.len());
     let mut word: u64 = 0;
-    while 0 < left {
-        left -= 1;
-        let byte = bytes[left];
-        word = word * 256 + byte as u64;
+    for byte in bytes[..count].iter().rev() {
+        word = word * 256 + *byte as u64;
     }
     word
 }

@@ -5,7 +5,7 @@ ghost use Rattle.std.specs.Io.KnownBytes.{Consumes, IsAtEnd};
 
 use std::io::{self, Read};
 
-// Reads until the bytes lent are full or the input ends: how many bytes it put at their front. They are those that it took from the input, and where it leaves room there are no more.
+// A `while`, since each read says how far it came. It reads until the bytes lent are full or the input ends: how many bytes it put at their front. They are those that it took from the input, and where it leaves room there are no more.
 pub fn read_full<R: Read>(input: &mut R, bytes: &mut [u8]) -> io::Result<usize>
     ensures within { ReadsAtMost result bytes.new }
     ensures taken { IfOk result (λ n. Consumes (R.remaining input.old) (R.remaining input.new) (take n bytes.new)) }

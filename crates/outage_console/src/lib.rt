@@ -8,6 +8,6 @@ mod refusal;
 pub mod screen;
 
 pub use archive::{pack_table, unpack_table};
-pub use argument::{Argument, read_format, sheet_in};
+pub use argument::{format_argument, read_format, sheet_in};
 pub use input::read_full;
 pub use screen::{LONGEST_SHEET_READ, print_sheet, read_sheet, rewrite_sheet};

@@ -1,6 +1,6 @@
 // What each program writes: the bytes that were asked for, or the refusal.
 ghost use Rattle.std.specs.Prelude.{◌≡◌, ◌≤◌, length};
-ghost use Rattle.lexical_util.specs.Answer.{written, held, of_written};
+ghost use Rattle.lexical_util.specs.Answer.{written, held, of_result};
 ghost use Rattle.outage_console.specs.Screen.{printing, reading, rewriting, screen, shown, SameRows};
 ghost use Rattle.outage_console.specs.Code.{put_count, put_bytes};
 ghost use Rattle.outage_console.specs.Week.{SheetReturns, TableReturns};
@@ -10,20 +10,20 @@ use crate::argument::sheet_in;
 use crate::refusal::put_refusal;
 use lexical_read_float::LONGEST_READ;
 use lexical_rewrite_spec::TextFormat;
-use lexical_util::{Refusal, Written};
+use lexical_util::{Reason, Refusal};
 use outage::{LONGEST_TABLE, MOST_WINDOWS};
 use outage_sheet::sheet_to_table;
 use outage_table::{LONGEST_SHEET, table_to_sheet};
 
 // Bytes that a call has written into those lent, or its refusal.
-pub(crate) fn put_answer(out: &mut [u8], answer: Written) -> usize
+pub(crate) fn put_answer(out: &mut [u8], answer: Result<usize, Refusal>) -> usize
     requires { 64 ≤ length out.old }
-    ensures value { result ≡ put_count (of_written answer) }
-    ensures out_after { out.new ≡ put_bytes (of_written answer) out.old }
+    ensures value { result ≡ put_count (of_result answer) }
+    ensures out_after { out.new ≡ put_bytes (of_result answer) out.old }
 {
     match answer {
-        Written::Length(count) => count,
-        Written::Refused(refusal) => put_refusal(out, refusal),
+        Ok(count) => count,
+        Err(refusal) => put_refusal(out, refusal),
     }
 }
 
@@ -43,16 +43,13 @@ pub fn print_sheet(table: &[u8], out: &mut [u8; LONGEST_SHEET]) -> usize
 pub const LONGEST_SHEET_READ: usize = 4 + MOST_WINDOWS * (2 * (LONGEST_READ + 1));
 
 // A sheet's table in bytes enough for any, unless the sheet is longer than any.
-fn table_of(sheet: &[u8], format: TextFormat, table: &mut [u8]) -> Written
+fn table_of(sheet: &[u8], format: TextFormat, table: &mut [u8]) -> Result<usize, Refusal>
     requires { table_size most_windows ≤ length table.old }
-    ensures result_value { of_written result ≡ written (reading format sheet.now) table.old }
+    ensures result_value { of_result result ≡ written (reading format sheet.now) table.old }
     ensures table_after { table.new ≡ held (reading format sheet.now) table.old }
 {
     if sheet.len() > LONGEST_SHEET_READ {
-        return Written::Refused(Refusal {
-            number: 15,
-            place: LONGEST_SHEET_READ,
-        });
+        return Err(Reason::WrongSheet.at(LONGEST_SHEET_READ));
     }
     sheet_to_table(sheet, format.format, format.options, table)
 }
@@ -82,10 +79,10 @@ pub fn rewrite_sheet(
 {
     let mut table = [0u8; LONGEST_TABLE];
     match table_of(sheet, from, &mut table) {
-        Written::Length(count) => {
+        Ok(count) => {
             let answer = table_to_sheet(&table[0..count], to.format, to.options, out);
             put_answer(out, answer)
         }
-        Written::Refused(refusal) => put_refusal(out, refusal),
+        Err(refusal) => put_refusal(out, refusal),
     }
 }

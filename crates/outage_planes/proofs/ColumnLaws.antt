@@ -4,36 +4,24 @@ use mathlib.Core.Path.{◌≡◌, refl, sym, ap, ◌∙◌}
 use mathlib.Core.List.{List, append_assoc}
 use native.Mathlib.Nat.{zero-add}
 use native.Mathlib.Omega.{arith}
-use lib.ListN.{length, take}
+use lib.ListN.{length, take, length-append}
 use lib.Seq.{length-take-le}
 use Rattle.lexical_util.specs.Answer.{done, refused, written, held}
 use Rattle.lexical_util.proofs.AnswerLaws.{text_short}
 use Rattle.lexical_buffer.specs.Put.{Puts}
 use Rattle.lexical_buffer.proofs.PutLaws.{puts_more, answered, kept}
 use Rattle.outage_spec.specs.Table.{table_size}
-use Rattle.outage_planes.specs.declared.archive.Way.{Way}
-use Rattle.outage_planes.specs.declared.archive.Way.TheVariants.{ToPlanes, ToFloats}
 use Rattle.outage_planes_spec.specs.Planes.{by_column}
-use Rattle.outage_planes.specs.Code.{made}
-use Rattle.outage_planes_spec.proofs.InverseLaws.{Transposes, planes_transpose, floats_transpose, made_size}
 
--- either way
-abbrev reversed : Way → Way
-reversed ToPlanes = ToFloats
-reversed ToFloats = ToPlanes
-
-transposes : (w : Way) → Transposes (made w) (made (reversed w))
-transposes ToPlanes = planes_transpose
-transposes ToFloats = floats_transpose
-
-module _ (w : Way) (t d : List ℕ) (n : ℕ) (size : length t ≡ table_size n) where
-  made_length : length (by_column (made w) n t) ≡ length t
-  made_length = made_size (made w) (made (reversed w)) (transposes w) t n size ∙ sym size
+module _ (make : ℕ → ℕ → List ℕ → List ℕ) (sized : (n at : ℕ) (t : List ℕ) → length (make n at t) ≡ 8 * n) (t d : List ℕ) (n : ℕ) (size : length t ≡ table_size n) where
+  made_length : length (by_column make n t) ≡ length t
+  unfolding by_column
+  made_length = simp length-append (omega (arith, length-take-le 8 t (omega arith), sized n 8 t, sized n (8 + 8 * n) t))
 
   -- no room
-  pub columns_short : length d < length t → (refused 8 0 ≡ written (done (by_column (made w) n t)) d) × (d ≡ held (done (by_column (made w) n t)) d)
+  pub columns_short : length d < length t → (refused 8 0 ≡ written (done (by_column make n t)) d) × (d ≡ held (done (by_column make n t)) d)
   columns_short h =
-      let s = text_short (by_column (made w) n t) d (length t) made_length h in
+      let s = text_short (by_column make n t) d (length t) made_length h in
       (sym s.0, sym s.1)
 
   -- the header, which ends where the starts begin
@@ -41,15 +29,15 @@ module _ (w : Way) (t d : List ℕ) (n : ℕ) (size : length t ≡ table_size n)
   header_ends r o p = p.next_is ∙ rw (length-take-le 8 t (omega arith)) refl
 
   -- the starts, which end where the ends begin
-  pub starts_end : (r r' : ℕ) (o o' : List ℕ) → Puts d 0 (take 8 t) r o → Puts o r (made w n r t) r' o' → r' ≡ 8 + 8 * n
-  starts_end r r' o o' p q = omega (arith, header_ends r o p, q.next_is, (transposes w).sized n r t)
+  pub starts_end : (r r' : ℕ) (o o' : List ℕ) → Puts d 0 (take 8 t) r o → Puts o r (make n r t) r' o' → r' ≡ 8 + 8 * n
+  starts_end r r' o o' p q = omega (arith, header_ends r o p, q.next_is, sized n r t)
 
-  pub columns_put : length t ≤ length d → (r r' r'' : ℕ) (o o' o'' : List ℕ) → Puts d 0 (take 8 t) r o → Puts o r (made w n r t) r' o' → Puts o' r' (made w n r' t) r'' o''
-      → (done r'' ≡ written (done (by_column (made w) n t)) d) × (o'' ≡ held (done (by_column (made w) n t)) d)
+  pub columns_put : length t ≤ length d → (r r' r'' : ℕ) (o o' o'' : List ℕ) → Puts d 0 (take 8 t) r o → Puts o r (make n r t) r' o' → Puts o' r' (make n r' t) r'' o''
+      → (done r'' ≡ written (done (by_column make n t)) d) × (o'' ≡ held (done (by_column make n t)) d)
   unfolding by_column
   columns_put h r r' r'' o o' o'' p q s =
-      let all = puts_more (made w n r' t) o'' r'' (omega arith) (puts_more (made w n r t) o' r' (omega arith) p q) s in
-      let is = rw (header_ends r o p, starts_end r r' o o' p q, append_assoc (take 8 t) (made w n 8 t) (made w n (8 + 8 * n) t)) at all in
-      let text = by_column (made w) n t in
+      let all = puts_more (make n r' t) o'' r'' (omega arith) (puts_more (make n r t) o' r' (omega arith) p q) s in
+      let is = rw (header_ends r o p, starts_end r r' o o' p q, append_assoc (take 8 t) (make n 8 t) (make n (8 + 8 * n) t)) at all in
+      let text = by_column make n t in
       let room : length text ≤ length d = rw made_length h in
       (ap done (is.next_is ∙ zero-add (length text)) ∙ answered text d room, kept text d o'' room is.out_is)

@@ -1,8 +1,5 @@
 -- What the planes of one column hold while a table is packed or unpacked. No exported contract cites it. Definitions only.
 use Rattle.std.specs.Prelude.{ℕ, zero, suc, ◌+◌, List, [], ◌∷◌, ◌++◌, take, get_or}
-use Rattle.outage_planes_spec.specs.Planes.{planes_of, floats_of}
-use Rattle.outage_planes.specs.declared.archive.Way.{Way}
-use Rattle.outage_planes.specs.declared.archive.Way.TheVariants.{ToPlanes, ToFloats}
 
 -- something of each plane, one behind the other
 unfoldable pub of_each : (List ℕ → List ℕ) → List (List ℕ) → List ℕ
@@ -21,8 +18,3 @@ byte_across i ps = of_each (λ p. get_or p i 0 ∷ []) ps
 unfoldable pub bytes_across : (i k : ℕ) → List (List ℕ) → List ℕ
 bytes_across i zero ps = []
 bytes_across i (suc k) ps = byte_across i ps ++ bytes_across (i + 1) k ps
-
--- what is made of a column, either way
-abbrev pub made : Way → (n at : ℕ) → List ℕ → List ℕ
-made ToPlanes n at t = planes_of n at t
-made ToFloats n at p = floats_of n at p

@@ -16,23 +16,18 @@ fn fill_plane(plane: &mut [u8], table: &[u8], from: usize, n: usize)
     requires { (n ≤ length plane.old) × (from + float_size * n ≤ length table.now + 7) × (n ≤ most_windows) }
     ensures { plane.new ≡ put plane.old 0 (byte_of_each float_size n from table.now) }
 {
-    let mut i: usize = 0;
-    while i < n {
-        plane[i] = table[from + FLOAT_SIZE * i];
-        i += 1;
+    for (i, slot) in plane[..n].iter_mut().enumerate() {
+        *slot = table[from + FLOAT_SIZE * i];
     }
 }
 
 // The planes of the n floats at a place.
 pub(crate) fn fill_from_floats(planes: &mut Planes, table: &[u8], at: usize, n: usize)
-    requires { (length planes.old ≡ float_size) × (n ≤ most_windows) × (at + float_size * n ≤ length table.now) }
-    ensures planes_after { first_bytes n planes.new ≡ planes_of n at table.now }
-    ensures planes_len { length planes.new ≡ float_size }
+    requires { (n ≤ most_windows) × (at + float_size * n ≤ length table.now) }
+    ensures { first_bytes n planes.new ≡ planes_of n at table.now }
 {
-    let mut j: usize = 0;
-    while j < FLOAT_SIZE {
-        fill_plane(&mut planes[j], table, at + j, n);
-        j += 1;
+    for (j, plane) in planes.iter_mut().enumerate() {
+        fill_plane(plane, table, at + j, n);
     }
 }
 
@@ -46,56 +41,47 @@ fn put_first(target: &mut [u8], at: usize, bytes: &[u8], n: usize) -> usize
 
 // The planes, one behind the other, from a place on.
 pub(crate) fn put_as_planes(planes: &Planes, n: usize, packed: &mut [u8], at: usize) -> usize
-    requires { (length planes.now ≡ float_size) × (n ≤ most_windows) × (at + float_size * n ≤ length packed.old) }
+    requires { (n ≤ most_windows) × (at + float_size * n ≤ length packed.old) }
     ensures { Puts packed.old at (first_bytes n planes.now) result packed.new }
 {
     let mut next = at;
-    let mut j: usize = 0;
-    while j < FLOAT_SIZE {
-        next = put_first(packed, next, &planes[j], n);
-        j += 1;
+    for plane in planes {
+        next = put_first(packed, next, plane, n);
     }
     next
 }
 
 // The eight planes of n bytes at a place.
 pub(crate) fn fill_from_planes(planes: &mut Planes, packed: &[u8], at: usize, n: usize)
-    requires { (length planes.old ≡ float_size) × (n ≤ most_windows) × (at + float_size * n ≤ length packed.now) }
-    ensures planes_after { bytes_across 0 n planes.new ≡ floats_of n at packed.now }
-    ensures planes_len { length planes.new ≡ float_size }
+    requires { (n ≤ most_windows) × (at + float_size * n ≤ length packed.now) }
+    ensures { bytes_across 0 n planes.new ≡ floats_of n at packed.now }
 {
     let mut from = at;
-    let mut j: usize = 0;
-    while j < FLOAT_SIZE {
-        put_first(&mut planes[j], 0, &packed[from..], n);
+    for plane in planes.iter_mut() {
+        put_first(plane, 0, &packed[from..], n);
         from += n;
-        j += 1;
     }
 }
 
 // A float: byte i of each plane, from a place on.
 fn put_float(table: &mut [u8], at: usize, planes: &Planes, i: usize) -> usize
-    requires { (length planes.now ≡ float_size) × (i < most_windows) × (at + float_size ≤ length table.old) }
+    requires { (i < most_windows) × (at + float_size ≤ length table.old) }
     ensures { Puts table.old at (byte_across i planes.now) result table.new }
 {
-    let mut j: usize = 0;
-    while j < FLOAT_SIZE {
-        table[at + j] = planes[j][i];
-        j += 1;
+    for (j, plane) in planes.iter().enumerate() {
+        table[at + j] = plane[i];
     }
     at + FLOAT_SIZE
 }
 
 // The n floats, from a place on.
 pub(crate) fn put_as_floats(planes: &Planes, n: usize, table: &mut [u8], at: usize) -> usize
-    requires { (length planes.now ≡ float_size) × (n ≤ most_windows) × (at + float_size * n ≤ length table.old) }
+    requires { (n ≤ most_windows) × (at + float_size * n ≤ length table.old) }
     ensures { Puts table.old at (bytes_across 0 n planes.now) result table.new }
 {
     let mut next = at;
-    let mut i: usize = 0;
-    while i < n {
+    for i in 0..n {
         next = put_float(table, next, planes, i);
-        i += 1;
     }
     next
 }

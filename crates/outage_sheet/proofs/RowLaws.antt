@@ -3,7 +3,7 @@ use Prim.Native.Nat.{ℕ, ◌+◌, ◌-◌, ◌≤◌, ◌<◌}
 use mathlib.Core.Path.{◌≡◌, refl, sym, ap, ◌∙◌, subst}
 use mathlib.Core.Bool.{Bool, true, false, not, cond}
 use mathlib.Core.List.{List, [], ◌∷◌}
-use mathlib.Core.Option.{Option, none, some}
+use Rattle.std.specs.Prelude.{Option, None, Some}
 use native.Mathlib.Omega.{arith}
 use borrow.Author.Rules.{part_to_end}
 use borrow.Author.Tests.{eq-eqb, ne_eqb, eqb-true, eqb-false}
@@ -58,8 +58,8 @@ abbrev any : {A : Type 0} → A → Type 0
 any a = Unit {0}
 
 pair_within : (n : ℕ) (cs : List Check) (o : Option Pair) → Within any n (checked_pair cs o)
-pair_within n cs none = omega arith
-pair_within n cs (some row) = within_checked any n cs (done row) tt
+pair_within n cs None = omega arith
+pair_within n cs (Some row) = within_checked any n cs (done row) tt
 
 shape_within : (t : List ℕ) (p : Parsed Shape) → Within any (length t) (of_parsed t p)
 shape_within t (found s) = tt

@@ -14,11 +14,9 @@ fn put_word(table: &mut [u8], at: usize, value: u64, size: usize)
     ensures { table.new ≡ put table.old at (to_bytes size value) }
 {
     let mut rest = value;
-    let mut done: usize = 0;
-    while done < size {
-        table[at + done] = (rest % 256) as u8;
+    for byte in &mut table[at..at + size] {
+        *byte = (rest % 256) as u8;
         rest = rest / 256;
-        done += 1;
     }
 }
 

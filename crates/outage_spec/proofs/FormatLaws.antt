@@ -2,7 +2,7 @@
 use mathlib.Core.Path.{◌≡◌, sym, ap, ◌∙◌}
 use mathlib.Core.Bool.{Bool, false}
 use mathlib.Core.List.{◌++◌}
-use mathlib.Core.Option.{Option, none, some}
+use Rattle.std.specs.Prelude.{Option, None, Some}
 use borrow.Author.Tests.{not-false, eqb-true}
 use lib.Dec.{eqb}
 use Rattle.lexical_util.specs.Answer.{done}
@@ -32,5 +32,5 @@ taken F o row e =
     }
   where
     no_bad_count : (b : Bool) (p : Option Pair) → checked_pair (reading_checks F o ++ writing_checks b F o) p ≡ done row → b ≡ false
-    no_bad_count b none e = absurd (refused_done 1 0 row e)
-    no_bad_count b (some found) e = (passed (reading_checks F o ++ writing_checks b F o) found row e).0.1.1.1.0
+    no_bad_count b None e = absurd (refused_done 1 0 row e)
+    no_bad_count b (Some found) e = (passed (reading_checks F o ++ writing_checks b F o) found row e).0.1.1.1.0

@@ -3,7 +3,7 @@ use Prim.Native.Nat.{ℕ, zero, suc, ◌+◌, ◌*◌, ◌/◌, ◌≤◌, ◌<�
 use mathlib.Core.Path.{◌≡◌, refl, sym, ap, ◌∙◌}
 use mathlib.Core.Bool.{Bool, true, false, cond, ◌&&◌, and-false}
 use mathlib.Core.List.{List, [], ◌∷◌}
-use mathlib.Core.Option.{Option, none, some}
+use Rattle.std.specs.Prelude.{Option, None, Some}
 use native.Mathlib.Omega.{arith}
 use borrow.Author.Tests.{le-leb, lt-leb, leb-true, eq-eqb, ne_eqb, eqb-true}
 use lib.Dec.{leb, eqb, eqb-zero-suc, eqb-suc-suc}
@@ -25,7 +25,7 @@ abbrev count : List ℕ → ℕ
 count ds = length (digits 10 (digits_value 10 ds))
 
 -- ---- the number of a numeral
-pub number_numeral : (limit x : ℕ) → x ≤ limit → number_in limit (numeral 10 1 x) ≡ some x
+pub number_numeral : (limit x : ℕ) → x ≤ limit → number_in limit (numeral 10 1 x) ≡ Some x
 unfolding number_in
 number_numeral limit x h =
     rw (
@@ -38,17 +38,17 @@ number_numeral limit x h =
     )
 
 -- ---- a number is at most its limit
-pub number_le : (limit : ℕ) (l : List ℕ) (n : ℕ) → number_in limit l ≡ some n → n ≤ limit
+pub number_le : (limit : ℕ) (l : List ℕ) (n : ℕ) → number_in limit l ≡ Some n → n ≤ limit
 unfolding number_in
 number_le limit l n e = go (eqb (length (front l)) (length l)) (eqb (count (front l)) (length l)) (leb m limit) refl e
   where
     m : ℕ
     m = digits_value 10 (front l)
 
-    none_some : none ≡ some n → ⊥
+    none_some : None ≡ Some n → ⊥
     none_some e = let z : ◌≡◌ {A = ℕ} 0 1 = cc in omega arith
 
-    go : (a b c : Bool) → leb m limit ≡ c → cond (a && (b && c)) (some m) none ≡ some n → n ≤ limit
+    go : (a b c : Bool) → leb m limit ≡ c → cond (a && (b && c)) (Some m) None ≡ Some n → n ≤ limit
     go true true true q e = let z : m ≡ n = cc in omega (arith, leb-true m limit q)
     go true true false q e = absurd (none_some e)
     go true false c q e = absurd (none_some e)
@@ -59,7 +59,7 @@ abbrev pub spelled : ℕ → ℕ → List ℕ → Option ℕ
 spelled limit a l =
     let ds = (run 10 l).got in
     let n = read_on 10 a ds in
-    cond (eqb (length ds) (length l) && leb n limit) (some n) none
+    cond (eqb (length ds) (length l) && leb n limit) (Some n) None
 
 read_ge : (a : ℕ) (ds : List ℕ) → a ≤ read_on 10 a ds
 unfolding read_on
@@ -67,18 +67,18 @@ read_ge a [] = omega arith
 read_ge a (d ∷ ds) = omega (arith, read_ge (a * 10 + d) ds)
 
 module _ (limit a : ℕ) where
-  pub spelled_end : a ≤ limit → spelled limit a [] ≡ some a
+  pub spelled_end : a ≤ limit → spelled limit a [] ≡ Some a
   unfolding run read_on
   spelled_end h = rw (le-leb a limit h)
 
-  pub spelled_above : (l : List ℕ) → limit < a → spelled limit a l ≡ none
+  pub spelled_above : (l : List ℕ) → limit < a → spelled limit a l ≡ None
   spelled_above l h = rw (lt-leb (read_on 10 a (front l)) limit (omega (arith, read_ge a (front l))), and-false)
 
   module _ (x : ℕ) (xs : List ℕ) where
-    pub spelled_other : digit_in 10 x ≡ none → spelled limit a (x ∷ xs) ≡ none
+    pub spelled_other : digit_in 10 x ≡ None → spelled limit a (x ∷ xs) ≡ None
     spelled_other e = rw (run_stops 10 x xs e, eqb-zero-suc (length xs))
 
-    pub spelled_digit : (d : ℕ) → digit_in 10 x ≡ some d → spelled limit a (x ∷ xs) ≡ spelled limit (a * 10 + d) xs
+    pub spelled_digit : (d : ℕ) → digit_in 10 x ≡ Some d → spelled limit a (x ∷ xs) ≡ spelled limit (a * 10 + d) xs
     unfolding run read_on
     spelled_digit d e = rw (e, eqb-suc-suc (length (front xs)) (length xs))
 
@@ -126,8 +126,8 @@ first_byte [] h k = absurd (omega arith)
 first_byte (x ∷ xs) h k = go (digit_in 10 x) refl h
   where
     go : (v : Option ℕ) → digit_in 10 x ≡ v → length (more x xs v (run 10 xs)).got ≡ suc (length xs) → x ≡ 48 + get_or (more x xs v (run 10 xs)).got 0 0
-    go none e h = absurd (omega arith)
-    go (some d) e h = let k = in_digit 10 x d e in sym k.0 ∙ byte_figure d k.1
+    go None e h = absurd (omega arith)
+    go (Some d) e h = let k = in_digit 10 x d e in sym k.0 ∙ byte_figure d k.1
 
 module _ (limit : ℕ) (l : List ℕ) where
   by_count : (length (front l) ≡ length l → count (front l) ≡ length l) → number_in limit l ≡ spelled limit 0 l
@@ -138,15 +138,15 @@ module _ (limit : ℕ) (l : List ℕ) where
       go true q = rw (eq-eqb (count (front l)) (length l) (h (eqb-true (length (front l)) (length l) q)))
       go false q = rw q
 
-  no_count : (length (front l) ≡ length l → count (front l) ≡ length l → ⊥) → number_in limit l ≡ none
+  no_count : (length (front l) ≡ length l → count (front l) ≡ length l → ⊥) → number_in limit l ≡ None
   unfolding number_in
   no_count h = go (eqb (length (front l)) (length l)) refl
     where
-      go : (b : Bool) → eqb (length (front l)) (length l) ≡ b → number_in limit l ≡ none
+      go : (b : Bool) → eqb (length (front l)) (length l) ≡ b → number_in limit l ≡ None
       go true q = rw (ne_eqb (count (front l)) (length l) (h (eqb-true (length (front l)) (length l) q)), and-false)
       go false q = rw q
 
-  pub in_none : length l ≡ 0 → number_in limit l ≡ none
+  pub in_none : length l ≡ 0 → number_in limit l ≡ None
   in_none h = no_count (λ e c. omega (arith, c, count_pos 10 (digits_value 10 (front l))))
 
   pub in_one : length l ≡ 1 → number_in limit l ≡ spelled limit 0 l
@@ -155,5 +155,5 @@ module _ (limit : ℕ) (l : List ℕ) where
   pub in_first : 0 < length l → (get_or l 0 0 ≡ 48 → ⊥) → number_in limit l ≡ spelled limit 0 l
   in_first h k = by_count (λ e. first_count (front l) (is_run 10 l).digits (omega (arith, first_byte l e h)) ∙ e)
 
-  pub in_zero : 1 < length l → get_or l 0 0 ≡ 48 → number_in limit l ≡ none
+  pub in_zero : 1 < length l → get_or l 0 0 ≡ 48 → number_in limit l ≡ None
   in_zero h k = no_count (λ e c. omega (arith, e, c, zero_count (front l) (is_run 10 l).digits (omega (arith, e)) (omega (arith, first_byte l e (omega arith)))))

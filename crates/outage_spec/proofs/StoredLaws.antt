@@ -3,7 +3,7 @@ use Prim.Native.Nat.{ℕ, zero, suc, ◌+◌, ◌*◌, ◌/◌, ◌≤◌}
 use mathlib.Core.Path.{◌≡◌, refl, ap, ◌∙◌, subst}
 use mathlib.Core.Bool.{Bool, true, false, cond}
 use mathlib.Core.List.{List, [], ◌∷◌, ◌++◌}
-use mathlib.Core.Option.{Option, none, some}
+use Rattle.std.specs.Prelude.{Option, None, Some}
 use native.Mathlib.Omega.{arith}
 use lib.Dec.{ltb}
 use lib.ListN.{length, drop, length-append}
@@ -29,8 +29,8 @@ unfolding sheet_count
 count_few s n e = go (lacks 10 s) e
   where
     by_number : (v : Option ℕ) → number_in most_windows (before 10 s) ≡ v → or_wrong v ≡ done n → n ≤ most_windows
-    by_number none q e = absurd (refused_done 15 0 n e)
-    by_number (some m) q e = number_le most_windows (before 10 s) n (q ∙ ap some (done_same m n e))
+    by_number None q e = absurd (refused_done 15 0 n e)
+    by_number (Some m) q e = number_le most_windows (before 10 s) n (q ∙ ap Some (done_same m n e))
 
     go : (b : Bool) → cond b (refused 15 0) (or_wrong (number_in most_windows (before 10 s))) ≡ done n → n ≤ most_windows
     go true e = absurd (refused_done 15 0 n e)

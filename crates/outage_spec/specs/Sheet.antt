@@ -1,6 +1,5 @@
 -- The sheet: document 01, "n in radix 10 without leading zeros, LF, then start, space, end, LF for each window in table order". Definitions only.
-use Rattle.std.specs.Prelude.{ℕ, zero, suc, ◌+◌, ◌*◌, Bool, not, cond, ◌&&◌, List, [], ◌∷◌, ◌++◌, leb, eqb, length, drop}
-use Rattle.std.proofs.Math.Option.{Option, none, some}
+use Rattle.std.specs.Prelude.{ℕ, zero, suc, ◌+◌, ◌*◌, Bool, not, cond, ◌&&◌, List, [], ◌∷◌, ◌++◌, leb, eqb, length, drop, Option, None, Some}
 use Rattle.std.specs.Float.{binary64}
 use Rattle.lexical_util.specs.Answer.{Answer, done, refused, and_then, checked}
 use Rattle.lexical_util.specs.Digit.{digits_value}
@@ -29,7 +28,7 @@ unfoldable pub number_in : ℕ → List ℕ → Option ℕ
 number_in limit l =
     let ds = (run 10 l).got in
     let n = digits_value 10 ds in
-    cond (eqb (length ds) (length l) && (eqb (length (digits 10 n)) (length l) && leb n limit)) (some n) none
+    cond (eqb (length ds) (length l) && (eqb (length (digits 10 n)) (length l) && leb n limit)) (Some n) None
 
 -- ---- the sheet of windows
 module _ (F : NumberFormat) (o : Options) where
@@ -54,8 +53,8 @@ sheet_size text = 4 + most_windows * (2 * (text + 1))
 -- ---- the windows of a sheet
 -- 15 count line wrong (no LF, not such a number, or above 400); else n
 abbrev pub or_wrong : Option ℕ → Answer ℕ
-or_wrong none = refused 15 0
-or_wrong (some n) = done n
+or_wrong None = refused 15 0
+or_wrong (Some n) = done n
 
 unfoldable pub sheet_count : List ℕ → Answer ℕ
 sheet_count s = checked ((15, lacks 10 s) ∷ []) (or_wrong (number_in most_windows (before 10 s)))

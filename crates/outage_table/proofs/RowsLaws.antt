@@ -1,4 +1,5 @@
 -- The rows of a table, one at a time: each that passed has its texts, and the passes over them. Assumes nothing.
+use Rattle.std.specs.Prelude.{Result, Ok, Err}
 use Prim.Native.Nat.{ℕ, suc, ◌+◌, ◌-◌, ◌≤◌, ◌<◌}
 use mathlib.Core.Path.{◌≡◌, refl, ap, ◌∙◌, subst}
 use mathlib.Core.List.{List, [], ◌∷◌, ◌++◌}
@@ -16,9 +17,8 @@ use Rattle.outage_spec.specs.declared.window.Window.{Window}
 use Rattle.outage_spec.specs.Table.{row_at, rows_from}
 use Rattle.outage_spec.proofs.FormatLaws.{taken}
 use Rattle.outage_spec.proofs.TableLaws.{row_passes}
-use Rattle.outage_table.specs.declared.table.Rows.{Rows as Checked}
-use Rattle.outage_table.specs.declared.table.Rows.TheVariants.{Passed, Refused}
-use Rattle.outage_table.specs.Count.{AreRows}
+use Rattle.lexical_util.specs.declared.answer.Refusal.{Refusal}
+use Rattle.outage_table.specs.Rows.{AreRows}
 use Rattle.outage_table.specs.Text.{contents, row_of, rows_of, HasTexts, Admitted}
 use Rattle.outage_table.proofs.TextLaws.{has_text}
 
@@ -50,9 +50,9 @@ module _ (t : List ℕ) (n i : ℕ) where
       rw z
 
 -- ---- what is said of the rows behind a row that passed is said of it and them
-pub checked_more : (c : Checked) (v : Window) (r : Answer (List Window)) → AreRows c r → AreRows c (and_then r (λ ws. done (v ∷ ws)))
-checked_more Passed v r e = rw e
-checked_more (Refused k) v r e = rw e
+pub checked_more : {A : Type 0} (c : Result A Refusal) (v : Window) (r : Answer (List Window)) → AreRows c r → AreRows c (and_then r (λ ws. done (v ∷ ws)))
+checked_more (Ok a) v r e = rw e
+checked_more (Err k) v r e = rw e
 
 module _ (F : NumberFormat) (o : Options) where
   -- ---- measured: the length of the rows, behind others that are so long

@@ -83,9 +83,9 @@ module _ (F : NumberFormat) (o : Options) where
         ∙ ap (λ (a : Answer (List ℕ)). and_then a (λ s. done (numeral 10 1 (length ws) ++ (10 ∷ s)))) (rows_are n 0 ws f)
         ∙ ap (λ (m : ℕ). done (numeral 10 1 m ++ (10 ∷ rows_of F o ws))) (rows_count t n 0 n ws f)
 
-  pub windows_wrong : (t : List ℕ) → refused 13 0 ≡ table_count t → and_then (table_windows t) (sheet_of F o) ≡ refused 13 0
+  pub windows_wrong : (t : List ℕ) (r p : ℕ) → refused r p ≡ table_count t → and_then (table_windows t) (sheet_of F o) ≡ refused r p
   unfolding table_windows
-  windows_wrong t e = rw (← e)
+  windows_wrong t r p e = rw (← e)
 
   pub windows_refused : (t : List ℕ) (n r p : ℕ) → table_count t ≡ done n → rows_from t n 0 n ≡ refused r p → and_then (table_windows t) (sheet_of F o) ≡ refused r p
   unfolding table_windows

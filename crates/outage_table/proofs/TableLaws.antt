@@ -1,13 +1,12 @@
--- What a table's bytes say: its count with the refusals of the header, and a row by the bits of its two floats. Assumes nothing.
-use Prim.Native.Nat.{ℕ, ◌+◌, ◌*◌, ◌%◌, ◌≤◌, ◌<◌}
+-- What a table's bytes say: a row by the bits of its two floats. Assumes nothing.
+use Prim.Native.Nat.{ℕ, ◌+◌, ◌*◌, ◌%◌}
 use mathlib.Core.Path.{◌≡◌, ap, ◌∙◌}
 use mathlib.Core.Bool.{Bool, true, false, not, cond}
 use mathlib.Core.List.{List}
 use native.Mathlib.Nat.{add-zero, le_of_lt}
 use native.Mathlib.Omega.{arith}
-use borrow.Author.Tests.{lt-ltb, le-ltb, leb-false, eq-eqb, ne_eqb}
+use borrow.Author.Tests.{leb-false}
 use lib.Dec.{T}
-use lib.ListN.{length}
 use lib.Ieee.{binary64, hid, ones, top, of_bits, nan_bits, lt}
 use lib.Ieee.Scale.{finite}
 use Rattle.lexical_util.specs.Answer.{Answer, done, refused}
@@ -16,30 +15,7 @@ use Rattle.outage_spec.specs.declared.window.Window.{Window}
 use Rattle.outage_spec.specs.Words.{word_at}
 use Rattle.lexical_float.proofs.PartsLaws.{special_test, tested_bits}
 use Rattle.outage_spec.specs.Window.{judged, from}
-use Rattle.outage_spec.specs.Table.{table_size, table_count, row_at, most_windows}
-
--- ---- the header
-pub count_short : (t : List ℕ) → length t < 8 → refused 13 0 ≡ table_count t
-unfolding table_count
-count_short t h = rw (lt-ltb (length t) 8 h)
-
-module _ (t : List ℕ) (n : ℕ) (e : n ≡ word_at 4 t 0) (h : 8 ≤ length t) where
-  pub count_many : most_windows < n → refused 13 0 ≡ table_count t
-  unfolding table_count
-  count_many k = rw (le-ltb (length t) 8 h, ← e, lt-ltb most_windows n k)
-
-  module _ (m : ℕ) (f : m ≡ word_at 4 t 4) (k : n ≤ most_windows) where
-    pub count_field : (m ≡ table_size n → ⊥) → refused 13 0 ≡ table_count t
-    unfolding table_count
-    count_field d = rw (le-ltb (length t) 8 h, ← e, le-ltb most_windows n k, ← f, ne_eqb m (table_size n) d)
-
-    pub count_lent : m ≡ table_size n → (length t ≡ table_size n → ⊥) → refused 13 0 ≡ table_count t
-    unfolding table_count
-    count_lent d g = rw (le-ltb (length t) 8 h, ← e, le-ltb most_windows n k, ← f, eq-eqb m (table_size n) d, ne_eqb (length t) (table_size n) g)
-
-    pub count_is : m ≡ table_size n → length t ≡ table_size n → done n ≡ table_count t
-    unfolding table_count
-    count_is d g = rw (le-ltb (length t) 8 h, ← e, le-ltb most_windows n k, ← f, eq-eqb m (table_size n) d, eq-eqb (length t) (table_size n) g)
+use Rattle.outage_spec.specs.Table.{row_at}
 
 -- ---- a row by the bits of its floats
 -- a checked window's refusal has place 0

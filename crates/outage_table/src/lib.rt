@@ -5,6 +5,5 @@ mod format;
 mod print;
 mod table;
 pub mod to_sheet;
-mod word;
 
 pub use to_sheet::{LONGEST_SHEET, table_to_sheet};

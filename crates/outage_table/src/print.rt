@@ -7,19 +7,22 @@ ghost use Rattle.lexical_write_float_spec.specs.Write.{longest_text};
 
 use lexical_buffer::{put_byte, put_number};
 use lexical_format::{NumberFormat, Options};
-use lexical_util::Written;
-use lexical_write_float::{LONGEST_TEXT, write_f64};
+use lexical_write_float::{LONGEST_TEXT, write_float};
 use outage_spec::Window;
 
 // The length of a float's text. It is written into scratch bytes, which have room for every text.
-fn text_length(x: f64, format: NumberFormat, options: Options, scratch: &mut [u8]) -> usize
-    requires { (length scratch.old ≡ longest_text) × HasText format options x }
-    ensures value { (result ≡ length (text_of format options x)) × (result ≤ longest_text) }
-    ensures scratch_len { length scratch.new ≡ longest_text }
+fn text_length(
+    x: f64,
+    format: NumberFormat,
+    options: Options,
+    scratch: &mut [u8; LONGEST_TEXT],
+) -> usize
+    requires { HasText format options x }
+    ensures { (result ≡ length (text_of format options x)) × (result ≤ longest_text) }
 {
-    match write_f64(x, format, options, scratch) {
-        Written::Length(count) => count,
-        Written::Refused(_) => 0,
+    match write_float(x, format, options, scratch) {
+        Ok(count) => count,
+        Err(_) => 0,
     }
 }
 
@@ -31,11 +34,10 @@ pub(crate) fn row_length(
     window: Window,
     format: NumberFormat,
     options: Options,
-    scratch: &mut [u8],
+    scratch: &mut [u8; LONGEST_TEXT],
 ) -> usize
-    requires { (length scratch.old ≡ longest_text) × HasTexts format options window }
-    ensures value { (result ≡ length (row_of format options window)) × (result ≤ 2 * (longest_text + 1)) }
-    ensures scratch_len { length scratch.new ≡ longest_text }
+    requires { HasTexts format options window }
+    ensures { (result ≡ length (row_of format options window)) × (result ≤ 2 * (longest_text + 1)) }
 {
     let start = text_length(window.start, format, options, scratch);
     let end = text_length(window.end, format, options, scratch);
@@ -47,9 +49,9 @@ fn put_text(sheet: &mut [u8], at: usize, x: f64, format: NumberFormat, options: 
     requires { HasText format options x × (at + length (text_of format options x) ≤ length sheet.old) }
     ensures { Puts sheet.old at (text_of format options x) result sheet.new }
 {
-    match write_f64(x, format, options, &mut sheet[at..]) {
-        Written::Length(count) => at + count,
-        Written::Refused(_) => at,
+    match write_float(x, format, options, &mut sheet[at..]) {
+        Ok(count) => at + count,
+        Err(_) => at,
     }
 }
 

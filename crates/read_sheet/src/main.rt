@@ -4,15 +4,12 @@
 ghost use Rattle.std.specs.Prelude.{◌≤◌, IfOk, length};
 
 use lexical_rewrite_spec::TextFormat;
-use outage_console::{Argument, LONGEST_SHEET_READ, read_format};
+use outage_console::{LONGEST_SHEET_READ, format_argument};
 use std::env::{Env, FillError};
 use std::io;
 
 // The longest sheet that is read, and one byte more, so that a longer input is seen.
 const ROOM: usize = LONGEST_SHEET_READ + 1;
-
-// Bytes for an argument. No format's name is as long, so a longer argument names none.
-const ARGUMENT_ROOM: usize = 4096;
 
 // All of standard input, as far as there is room.
 fn read(rt: &HostRuntime, sheet: &mut [u8; ROOM]) -> io::Result<usize>
@@ -42,20 +39,12 @@ fn is_given(rt: &impl Env, i: usize) -> bool {
     !matches!(rt.arg(i, &mut []), Err(FillError::NotPresent))
 }
 
-fn argument(rt: &impl Env, i: usize) -> Argument {
-    let mut text = [0u8; ARGUMENT_ROOM];
-    match rt.arg(i, &mut text) {
-        Ok(n) => read_format(&text[0..n]),
-        Err(_) => Argument::Unknown,
-    }
-}
-
 fn main(rt: HostRuntime) -> io::Result<()> {
-    if !is_given(&rt, 1) || is_given(&rt, 2) {
+    if is_given(&rt, 2) {
         return usage(&rt);
     }
-    match argument(&rt, 1) {
-        Argument::Format(format) => run(&rt, format),
-        Argument::Unknown => usage(&rt),
-    }
+    let Some(format) = format_argument(&rt, 1) else {
+        return usage(&rt);
+    };
+    run(&rt, format)
 }

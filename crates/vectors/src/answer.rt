@@ -1,87 +1,77 @@
-// What a call answers, and what a line says that it does.
-use crate::numbers::Number;
-use crate::{fields, numbers};
-use lexical_util::{Refusal, Written};
+// What a line says that a call answers, and whether it did.
+ghost use Rattle.std.specs.Prelude.{◌<◌, length, IfOk};
 
-// A number is the length of a text, or the bits of a float. A NaN, which no line has, is told apart: its bits are not defined.
-#[derive(Clone, Copy)]
-pub(crate) enum Answer {
-    Number(u64),
-    NotANumber,
-    Refused(Refusal),
-    Malformed,
+use crate::fields::{self, Fields, Malformed};
+use crate::tally::Verdict;
+use crate::{lent, numbers};
+use lexical_util::Refusal;
+
+// A refusal as a line tells it: by a number, which no reason need have, and a place.
+#[derive(Clone, Copy, Debug, PartialEq, Eq)]
+pub(crate) struct Told {
+    pub number: u32,
+    pub place: usize,
 }
 
-// `refused N at P`
-pub(crate) fn refusal(s: &[u8]) -> Answer {
-    if !fields::is_word(s, 2, b"at") || !fields::is_last(s, 3) {
-        return Answer::Malformed;
+impl From<Refusal> for Told {
+    fn from(refusal: Refusal) -> Told {
+        Told {
+            number: refusal.reason.number(),
+            place: refusal.place,
+        }
     }
-    let Number::Plain(number) = numbers::field(s, 1, false) else {
-        return Answer::Malformed;
-    };
-    let Number::Plain(place) = numbers::field(s, 3, false) else {
-        return Answer::Malformed;
-    };
-    if number > 0xffff_ffff {
-        return Answer::Malformed;
+}
+
+// `refused N at P`, where an answer begins so.
+pub(crate) fn refusal_in(s: &[u8]) -> Result<Option<Told>, Malformed> {
+    let mut fields = Fields::of(s);
+    if fields.word()? != b"refused".as_slice() {
+        return Ok(None);
     }
-    Answer::Refused(Refusal {
-        number: number as u32,
-        place: place as usize,
-    })
+    let number = fields.count()?;
+    if fields.word()? != b"at".as_slice() {
+        return Err(Malformed);
+    }
+    let place = fields.number()? as usize;
+    fields.end()?;
+    Ok(Some(Told { number, place }))
 }
 
 // `length text`, the text with as many bytes as the length says, and not empty; or a refusal.
-pub(crate) fn of_text(s: &[u8]) -> Answer {
-    if fields::is_word(s, 0, b"refused") {
-        return refusal(s);
+pub(crate) fn of_text(s: &[u8]) -> Result<Result<&[u8], Told>, Malformed>
+    ensures { IfOk result (λ w. IfOk w (λ text. 0 < length text.now)) }
+{
+    if let Some(told) = refusal_in(s)? {
+        return Ok(Err(told));
     }
-    let Number::Plain(length) = numbers::field(s, 0, false) else {
-        return Answer::Malformed;
-    };
-    let start = fields::start_of(s, 1);
-    if length == 0 || length != (s.len() - start) as u64 {
-        return Answer::Malformed;
+    let (length, text) = fields::split_once(s, b' ').ok_or(Malformed)?;
+    if text.is_empty() || numbers::decimal(length) != Some(text.len() as u64) {
+        return Err(Malformed);
     }
-    Answer::Number(length)
+    Ok(Ok(text))
 }
 
-// What a call that writes answered.
-pub(crate) fn written(answer: Written) -> Answer {
-    match answer {
-        Written::Length(n) => Answer::Number(n as u64),
-        Written::Refused(refusal) => Answer::Refused(refusal),
-    }
-}
-
-pub(crate) fn is_malformed(answer: Answer) -> bool {
-    if let Answer::Malformed = answer {
-        return true;
-    }
-    false
-}
-
-fn is_number(answer: Answer, number: u64) -> bool {
-    let Answer::Number(n) = answer else {
-        return false;
-    };
-    n == number
-}
-
-fn is_refusal(answer: Answer, refusal: Refusal) -> bool {
-    let Answer::Refused(r) = answer else {
-        return false;
-    };
-    r.number == refusal.number && r.place == refusal.place
-}
-
-// Whether a call gives a line's answer, which is a number or a refusal.
-pub(crate) fn is_same(given: Answer, wanted: Answer) -> bool {
+// Whether a call that writes gave a line's answer: a text of this length, which stands at the start, or this refusal; and left every other byte as it was.
+pub(crate) fn is_given(
+    given: Result<usize, Refusal>,
+    wanted: Result<&[u8], Told>,
+    out: &[u8],
+) -> bool {
     match wanted {
-        Answer::Number(number) => is_number(given, number),
-        Answer::NotANumber => false,
-        Answer::Refused(refusal) => is_refusal(given, refusal),
-        Answer::Malformed => false,
+        Ok(text) => given == Ok(text.len()) && lent::holds(out, text),
+        Err(told) => given.map_err(Told::from) == Err(told) && lent::is_filled(out),
+    }
+}
+
+// The same of a line that is asked for once.
+pub(crate) fn judge(
+    given: Result<usize, Refusal>,
+    wanted: Result<&[u8], Told>,
+    out: &[u8],
+) -> Verdict {
+    if is_given(given, wanted, out) {
+        Verdict::Agrees
+    } else {
+        Verdict::Differs(0)
     }
 }

@@ -1,44 +1,63 @@
-// A line's format. A field past the last is one that the line lacks, and counts as 0.
-ghost use Rattle.std.specs.Prelude.{◌<◌};
-
-use crate::numbers;
+// A line's format.
+use crate::fields::{Fields, Malformed};
 use lexical_format::{NumberFormat, Options, RoundMode};
 
-// Radix, base and exponent radix from one field on, four flags from another.
-pub(crate) fn format_in(s: &[u8], radix: usize, flags: usize) -> NumberFormat
-    requires { (radix < 32) × (flags < 32) }
-{
-    NumberFormat {
-        mantissa_radix: numbers::count(s, radix),
-        exponent_base: numbers::count(s, radix + 1),
-        exponent_radix: numbers::count(s, radix + 2),
-        required_exponent_notation: numbers::flag(s, flags),
-        no_exponent_notation: numbers::flag(s, flags + 1),
-        required_exponent_sign: numbers::flag(s, flags + 2),
-        no_exponent_without_fraction: numbers::flag(s, flags + 3),
-    }
+// Radix, base and exponent radix, without flags: a line that reads has none.
+pub(crate) fn radices(fields: &mut Fields) -> Result<NumberFormat, Malformed> {
+    Ok(NumberFormat {
+        mantissa_radix: fields.count()?,
+        exponent_base: fields.count()?,
+        exponent_radix: fields.count()?,
+        required_exponent_notation: false,
+        no_exponent_notation: false,
+        required_exponent_sign: false,
+        no_exponent_without_fraction: false,
+    })
+}
+
+// The same and four flags.
+pub(crate) fn format(fields: &mut Fields) -> Result<NumberFormat, Malformed> {
+    let mut format = radices(fields)?;
+    format.required_exponent_notation = fields.flag()?;
+    format.no_exponent_notation = fields.flag()?;
+    format.required_exponent_sign = fields.flag()?;
+    format.no_exponent_without_fraction = fields.flag()?;
+    Ok(format)
+}
+
+// Point and mark, and nothing else: a line that reads has no more, so that its format has the width 0, for which no reading may refuse it.
+pub(crate) fn bytes(fields: &mut Fields) -> Result<Options, Malformed> {
+    let decimal_point = fields.byte()?;
+    let exponent = fields.byte()?;
+    Ok(Options {
+        max_significant_digits: 0,
+        min_significant_digits: 0,
+        positive_exponent_break: 0,
+        negative_exponent_break: 0,
+        exponent_width: 0,
+        round_mode: RoundMode::Round,
+        trim_floats: false,
+        exponent,
+        decimal_point,
+    })
 }
 
 fn round_mode(truncate: bool) -> RoundMode {
     if truncate {
-        return RoundMode::Truncate;
+        RoundMode::Truncate
+    } else {
+        RoundMode::Round
     }
-    RoundMode::Round
 }
 
-// Point and mark from one field on; from another whether to trim and to truncate, the least and the most digits, the breaks, the lower first, and an exponent's width. A line that reads has none of these, so that its format has the width 0: no reading may refuse it.
-pub(crate) fn options_in(s: &[u8], point: usize, trim: usize) -> Options
-    requires { (point < 32) × (trim < 32) }
-{
-    Options {
-        max_significant_digits: numbers::count(s, trim + 3),
-        min_significant_digits: numbers::count(s, trim + 2),
-        positive_exponent_break: numbers::int(s, trim + 5),
-        negative_exponent_break: numbers::int(s, trim + 4),
-        exponent_width: numbers::count(s, trim + 6),
-        round_mode: round_mode(numbers::flag(s, trim + 1)),
-        trim_floats: numbers::flag(s, trim),
-        exponent: numbers::byte(s, point + 1),
-        decimal_point: numbers::byte(s, point),
-    }
+// The same, and whether to trim and to truncate, the least and the most digits, and the breaks, the lower first. An exponent's width follows.
+pub(crate) fn options(fields: &mut Fields) -> Result<Options, Malformed> {
+    let mut options = bytes(fields)?;
+    options.trim_floats = fields.flag()?;
+    options.round_mode = round_mode(fields.flag()?);
+    options.min_significant_digits = fields.count()?;
+    options.max_significant_digits = fields.count()?;
+    options.negative_exponent_break = fields.int()?;
+    options.positive_exponent_break = fields.int()?;
+    Ok(options)
 }

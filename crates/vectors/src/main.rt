@@ -1,7 +1,6 @@
 // Replays lists of cases through the compiled calls, and counts the lines whose answer they give again.
 #![tactic(auto)]
 
-ghost use Rattle.std.specs.Io.{ReadsAtMost};
 ghost use Rattle.std.specs.Prelude.{◌≡◌, length};
 
 mod answer;
@@ -9,18 +8,16 @@ mod digits;
 mod fields;
 mod format;
 mod hex;
-mod kinds;
 mod lent;
 mod numbers;
-mod planes;
 mod print;
 mod reading;
 mod replay;
-mod sheets;
 mod tables;
 mod tally;
 mod writing;
 
+use outage_console::read_full;
 use std::env::{Env, FillError};
 use std::fs::{self, Files};
 use std::io::{self, Read};
@@ -32,29 +29,14 @@ fn space() -> [u8; 524288]
     [0; 524288]
 }
 
-// Reads until the bytes lent are full or the file ends: how many bytes it put at their front.
-fn read_full(file: &mut impl Read, bytes: &mut [u8]) -> io::Result<usize>
-    ensures { ReadsAtMost result bytes.new }
-{
-    let mut done = 0;
-    while done < bytes.len() {
-        let n = file.read(&mut bytes[done..])?;
-        if n == 0 {
-            break;
-        }
-        done += n;
-    }
-    Ok(done)
-}
-
-fn replay_file(rt: &impl Print, name: &[u8], file: &mut impl Read) -> io::Result<()> {
+fn replay_file(rt: &impl Print, name: &str, file: &mut impl Read) -> io::Result<()> {
     let mut data = space();
     let n = read_full(file, &mut data)?;
     if n == data.len() {
-        print::text(rt, name)?;
-        return print::text(rt, b": too long\n");
+        return println!(rt; "{name}: too long");
     }
-    print::tally(rt, name, replay::list(rt, name, &data[..n])?)
+    let tally = replay::list(rt, name, &data[..n])?;
+    println!(rt; "{name}: {tally}")
 }
 
 // A file that cannot be opened is told of, and left out.
@@ -63,7 +45,7 @@ fn replay_path(rt: &(impl Files + Print + Eprint), name: &[u8]) -> io::Result<()
         return eprintln!(rt; "argument: not UTF-8");
     };
     match fs::open(rt, path) {
-        Ok(mut file) => replay_file(rt, name, &mut file),
+        Ok(mut file) => replay_file(rt, path, &mut file),
         Err(error) => eprintln!(rt; "{path}: {error}"),
     }
 }

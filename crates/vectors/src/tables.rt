@@ -1,110 +1,98 @@
-// A line whose call takes bytes and writes bytes: one of sheets.rt or of planes.rt. A field says how many bytes are lent, the next one has the bytes taken. For an answer a length and the bytes, or a refusal. A table's bytes are any, so those lent hold a byte more than once: every one past the answer is looked at.
-ghost use Rattle.std.specs.Prelude.{◌≡◌, ◌≤◌, length};
-
-use crate::answer::Answer;
-use crate::numbers::Number;
+// A line whose call takes bytes and writes bytes: it turns a table into a sheet or back, or packs a table or unpacks one. A field says how many bytes are lent, the last one has the bytes taken. For an answer a length and the bytes, or a refusal. A table's bytes are any, so those lent hold a byte more than once: every one past the answer is looked at.
+use crate::answer::{self, Told};
+use crate::fields::{Fields, Malformed};
 use crate::tally::Verdict;
-use crate::{answer, fields, hex, lent, numbers, planes, print, sheets};
+use crate::{format, hex, lent, numbers, print};
+use lexical_format::{NumberFormat, Options};
+use lexical_util::Refusal;
+use outage_planes::{pack, unpack};
+use outage_sheet::sheet_to_table;
+use outage_table::table_to_sheet;
 use std::io;
 
 // A line's bytes, and the bytes lent: more are malformed.
 const ROOM: usize = 32768;
 
-fn space() -> [u8; ROOM]
-    ensures { 32768 ≡ length result }
-{
+fn space() -> [u8; ROOM] {
     [lent::FILL; ROOM]
 }
 
-pub(crate) fn is_line(input: &[u8]) -> bool {
-    planes::is_line(input) || sheets::is_line(input)
+// What a line asks for.
+#[derive(Clone, Copy)]
+enum Call {
+    // `T`, and the sixteen fields of a format from radix to width.
+    ToSheet(NumberFormat, Options),
+    // `S`, radix, base, exponent radix, point and mark.
+    ToTable(NumberFormat, Options),
+    // `P`
+    Pack,
+    // `U`
+    Unpack,
 }
 
-fn are_fields(input: &[u8]) -> bool {
-    if planes::is_line(input) {
-        return planes::are_fields(input);
+fn call_of(fields: &mut Fields) -> Result<Call, Malformed> {
+    match fields.word()? {
+        b"T" => {
+            let format = format::format(fields)?;
+            let mut options = format::options(fields)?;
+            options.exponent_width = fields.count()?;
+            Ok(Call::ToSheet(format, options))
+        }
+        b"S" => {
+            let format = format::radices(fields)?;
+            let options = format::bytes(fields)?;
+            Ok(Call::ToTable(format, options))
+        }
+        b"P" => Ok(Call::Pack),
+        b"U" => Ok(Call::Unpack),
+        _ => Err(Malformed),
     }
-    sheets::are_fields(input)
 }
 
-// The place of the number of bytes lent.
-fn lent_field(input: &[u8]) -> usize
-    ensures { result ≤ 17 }
-{
-    if planes::is_line(input) {
-        return planes::LENT;
+fn make_call(call: Call, bytes: &[u8], out: &mut [u8]) -> Result<usize, Refusal> {
+    match call {
+        Call::ToSheet(format, options) => table_to_sheet(bytes, format, options, out),
+        Call::ToTable(format, options) => sheet_to_table(bytes, format, options, out),
+        Call::Pack => pack(bytes, out),
+        Call::Unpack => unpack(bytes, out),
     }
-    sheets::lent_field(input)
-}
-
-fn call(input: &[u8], bytes: &[u8], out: &mut [u8]) -> Answer {
-    if planes::is_line(input) {
-        return planes::call(input, bytes, out);
-    }
-    sheets::call(input, bytes, out)
 }
 
 // What the call answers to a line's bytes, with as many bytes lent as it says.
-fn given(input: &[u8], out: &mut [u8]) -> Answer {
-    if !are_fields(input) {
-        return Answer::Malformed;
+fn given(input: &[u8], out: &mut [u8]) -> Result<Result<usize, Refusal>, Malformed> {
+    let mut fields = Fields::of(input);
+    let asked = call_of(&mut fields)?;
+    let room = fields.count()? as usize;
+    let mut space = space();
+    let bytes = hex::bytes(fields.word()?, &mut space)?;
+    fields.end()?;
+    let buffer = out.get_mut(..room).ok_or(Malformed)?;
+    Ok(make_call(asked, bytes, buffer))
+}
+
+// `length bytes`, as many bytes as the length says, where one that is no number counts as 0; or a refusal.
+fn answer_of<'a>(s: &[u8], space: &'a mut [u8]) -> Result<Result<&'a [u8], Told>, Malformed> {
+    if let Some(told) = answer::refusal_in(s)? {
+        return Ok(Err(told));
     }
-    let k = lent_field(input);
+    let mut fields = Fields::of(s);
+    let length = numbers::decimal(fields.word()?).unwrap_or(0);
+    let bytes = hex::bytes(fields.word()?, space)?;
+    fields.end()?;
+    if length != bytes.len() as u64 {
+        return Err(Malformed);
+    }
+    Ok(Ok(bytes))
+}
+
+pub(crate) fn judge(input: &[u8], answer: &[u8]) -> Result<Verdict, Malformed> {
     let mut bytes = space();
-    let Number::Plain(n) = hex::bytes_of(input, k + 1, &mut bytes) else {
-        return Answer::Malformed;
-    };
-    let room = numbers::plain(input, k, false);
-    if n > ROOM as u64 || room > out.len() as u64 {
-        return Answer::Malformed;
-    }
-    call(input, &bytes[0..n as usize], &mut out[0..room as usize])
-}
-
-// `length bytes`, as many bytes as the length says.
-fn length_of(s: &[u8], bytes: &mut [u8]) -> Answer {
-    let Number::Plain(n) = hex::bytes_of(s, 1, bytes) else {
-        return Answer::Malformed;
-    };
-    if !fields::is_last(s, 1) || numbers::plain(s, 0, false) != n {
-        return Answer::Malformed;
-    }
-    Answer::Number(n)
-}
-
-fn answer_of(s: &[u8], bytes: &mut [u8]) -> Answer {
-    if fields::is_word(s, 0, b"refused") {
-        return answer::refusal(s);
-    }
-    length_of(s, bytes)
-}
-
-// Whether the bytes of an answer stand at the start, and every other byte is as it was.
-fn holds(out: &[u8], wanted: Answer, bytes: &[u8]) -> bool {
-    let Answer::Number(n) = wanted else {
-        return lent::is_filled(out);
-    };
-    if n > bytes.len() as u64 {
-        return false;
-    }
-    lent::holds(out, &bytes[0..n as usize])
-}
-
-pub(crate) fn judge(input: &[u8], answer: &[u8]) -> Verdict {
-    let mut bytes = space();
-    let wanted = answer_of(answer, &mut bytes);
+    let wanted = answer_of(answer, &mut bytes)?;
     let mut out = space();
-    let given = given(input, &mut out);
-    if answer::is_malformed(wanted) || answer::is_malformed(given) {
-        return Verdict::Malformed;
-    }
-    if answer::is_same(given, wanted) && holds(&out, wanted, &bytes) {
-        return Verdict::Agrees;
-    }
-    Verdict::Differs(0)
+    let given = given(input, &mut out)?;
+    Ok(answer::judge(given, wanted, &out))
 }
 
 pub(crate) fn show(rt: &impl Print, input: &[u8]) -> io::Result<()> {
-    let mut out = space();
-    print::answer(rt, given(input, &mut out), false)
+    print::answer(rt, given(input, &mut space()))
 }

@@ -2,42 +2,51 @@
 ghost use Rattle.std.specs.Prelude.{◌+◌, ◌-◌, ◌^◌, ◌≤◌, ◌<◌};
 ghost use Rattle.vectors.specs.Counts.{Counts};
 
-// One that differs, with how many bytes lent to be written.
-#[derive(Clone, Copy)]
+use crate::fields::Malformed;
+use std::fmt;
+
+// A line that differs, with how many bytes lent to be written.
+#[derive(Clone, Copy, Debug, PartialEq, Eq)]
 pub(crate) enum Verdict {
-    Comment,
     Agrees,
     Differs(usize),
-    Malformed,
 }
 
-#[derive(Clone, Copy)]
+#[derive(Clone, Copy, Debug, PartialEq, Eq)]
 pub(crate) struct Tally {
     pub lines: usize,
     pub agree: usize,
     pub malformed: usize,
 }
 
-pub(crate) fn counted(tally: Tally, verdict: Verdict) -> Tally
+// As the program tells it.
+impl fmt::Display for Tally {
+    fn fmt<W: fmt::Write>(&self, f: &mut fmt::Formatter<W>) -> fmt::Result {
+        write!(
+            f,
+            "{} lines, {} agree, {} malformed",
+            self.lines, self.agree, self.malformed
+        )
+    }
+}
+
+// The counts with one line more.
+pub(crate) fn counted(tally: Tally, verdict: Result<Verdict, Malformed>) -> Tally
     requires { Counts tally × (tally.lines < 2 ^ 64 - 1) }
     ensures { Counts result × (result.lines ≤ tally.lines + 1) }
 {
+    let lines = tally.lines + 1;
     match verdict {
-        Verdict::Comment => tally,
-        Verdict::Agrees => Tally {
-            lines: tally.lines + 1,
+        Ok(Verdict::Agrees) => Tally {
+            lines,
             agree: tally.agree + 1,
-            malformed: tally.malformed,
+            ..tally
         },
-        Verdict::Differs(_) => Tally {
-            lines: tally.lines + 1,
-            agree: tally.agree,
-            malformed: tally.malformed,
-        },
-        Verdict::Malformed => Tally {
-            lines: tally.lines + 1,
-            agree: tally.agree,
+        Ok(Verdict::Differs(_)) => Tally { lines, ..tally },
+        Err(Malformed) => Tally {
+            lines,
             malformed: tally.malformed + 1,
+            ..tally
         },
     }
 }

@@ -1,185 +1,148 @@
 // A line that writes: width, bits, radix, base, exponent radix, four flags, point, mark, whether to trim and to truncate, the least and the most digits, two breaks and an exponent's width, which is 1 where the line lacks it; and for an answer a text behind its length, or a refusal. Each call lends 4,096 bytes, just enough, and one byte less.
-ghost use Rattle.std.specs.Prelude.{◌≡◌, length};
+ghost use Rattle.std.specs.Prelude.{◌<◌, length};
 
-use crate::answer::Answer;
+use crate::answer::{self, Told};
+use crate::fields::{Fields, Malformed};
 use crate::tally::Verdict;
-use crate::{answer, fields, format, kinds, lent, numbers, print};
-use lexical_format::Options;
-use lexical_util::Refusal;
-use lexical_write_float::{write_f32, write_f64};
+use crate::{format, lent};
+use lexical_float::{Float, Width};
+use lexical_format::{NumberFormat, Options};
+use lexical_util::{Reason, Refusal};
+use lexical_write_float::write_float;
 use std::io;
-
-// The places of the fields.
-const WIDTH: usize = 0;
-
-const BITS: usize = 1;
-
-const RADIX: usize = 2;
-
-const FLAGS: usize = 5;
-
-const POINT: usize = 9;
-
-const TRIM: usize = 11;
-
-const HIGH: usize = 16;
 
 const ROOM: usize = 4096;
 
+// A float of either width, any NaN where a line's bits are a NaN's.
 #[derive(Clone, Copy)]
-enum Float {
-    F64(f64),
-    F32(f32),
-    Malformed,
+enum Value {
+    Wide(f64),
+    Narrow(f32),
 }
 
-fn filled() -> [u8; ROOM]
-    ensures { 4096 ≡ length result }
-{
-    [lent::FILL; ROOM]
-}
-
-// The float with these bits, any NaN where they are a NaN's.
-fn f64_of(bits: u64) -> f64 {
-    if bits % 0x8000_0000_0000_0000 > 0x7ff0_0000_0000_0000 {
-        return 0.0 / 0.0;
-    }
-    f64::from_bits(bits)
-}
-
-fn f32_of(bits: u32) -> f32 {
-    if bits % 0x8000_0000 > 0x7f80_0000 {
-        return 0.0 / 0.0;
-    }
-    f32::from_bits(bits)
-}
-
-fn float_of(input: &[u8]) -> Float {
-    let bits = numbers::plain(input, BITS, true);
-    if numbers::plain(input, WIDTH, false) == 64 {
-        return Float::F64(f64_of(bits));
-    }
-    if bits > 0xffff_ffff {
-        return Float::Malformed;
-    }
-    Float::F32(f32_of(bits as u32))
-}
-
-fn options_of(input: &[u8]) -> Options {
-    let mut options = format::options_in(input, POINT, TRIM);
-    if fields::is_last(input, HIGH) {
-        options.exponent_width = 1;
-    }
-    options
-}
-
-fn call(input: &[u8], out: &mut [u8]) -> Answer {
-    let format = format::format_in(input, RADIX, FLAGS);
-    let options = options_of(input);
-    match float_of(input) {
-        Float::F64(x) => answer::written(write_f64(x, format, options, out)),
-        Float::F32(x) => answer::written(write_f32(x, format, options, out)),
-        Float::Malformed => Answer::Malformed,
+fn value_of(fields: &mut Fields) -> Result<Value, Malformed> {
+    let width = fields.width()?;
+    let bits = fields.bits()?;
+    match width {
+        Width::Binary64 => Ok(Value::Wide(Float::from_bits(bits))),
+        Width::Binary32 => {
+            let narrow = u32::try_from(bits).map_err(|_| Malformed)?;
+            Ok(Value::Narrow(Float::from_bits(u64::from(narrow))))
+        }
     }
 }
 
-// Lends the first bytes, so many.
-fn call_with(input: &[u8], room: usize, out: &mut [u8]) -> Answer {
-    if room > out.len() {
-        return Answer::Malformed;
-    }
-    call(input, &mut out[0..room])
+// What a line asks for.
+#[derive(Clone, Copy)]
+struct Line {
+    value: Value,
+    format: NumberFormat,
+    options: Options,
 }
 
-// Whether a call with so many bytes gives this answer and this text, and leaves every other byte as it was, those that it was not lent too.
-fn agrees(input: &[u8], room: usize, wanted: Answer, text: &[u8]) -> bool {
-    let mut space = filled();
-    let given = call_with(input, room, &mut space);
-    answer::is_same(given, wanted) && lent::holds(&space, text)
+fn line_of(input: &[u8]) -> Result<Line, Malformed> {
+    let mut fields = Fields::of(input);
+    let value = value_of(&mut fields)?;
+    let format = format::format(&mut fields)?;
+    let mut options = format::options(&mut fields)?;
+    options.exponent_width = if fields.is_empty() {
+        1
+    } else {
+        fields.count()?
+    };
+    fields.end()?;
+    Ok(Line {
+        value,
+        format,
+        options,
+    })
+}
+
+fn call(line: &Line, out: &mut [u8]) -> Result<usize, Refusal> {
+    match line.value {
+        Value::Wide(x) => write_float(x, line.format, line.options, out),
+        Value::Narrow(x) => write_float(x, line.format, line.options, out),
+    }
+}
+
+// Whether a call with so many of the 4,096 bytes gives this answer, and leaves every other byte as it was, those that it was not lent too.
+fn agrees(line: &Line, room: usize, wanted: Result<&[u8], Told>) -> bool {
+    let mut space = [lent::FILL; ROOM];
+    let Some(out) = space.get_mut(..room) else {
+        return false;
+    };
+    let given = call(line, out);
+    answer::is_given(given, wanted, &space)
 }
 
 // A text: the same with as many bytes as it has, and refused with one byte less.
-fn judge_text(input: &[u8], text: &[u8]) -> Verdict {
+fn judge_text(line: &Line, text: &[u8]) -> Verdict
+    requires { 0 < length text.now }
+{
     let n = text.len();
-    if n == 0 {
-        return Verdict::Malformed;
-    }
-    if !agrees(input, ROOM, Answer::Number(n as u64), text) {
-        return Verdict::Differs(ROOM);
-    }
-    if !agrees(input, n, Answer::Number(n as u64), text) {
-        return Verdict::Differs(n);
-    }
-    let short = Refusal {
-        number: 8,
-        place: 0,
-    };
-    if !agrees(input, n - 1, Answer::Refused(short), b"") {
-        return Verdict::Differs(n - 1);
+    let short = Reason::NoRoom.at(0);
+    for (room, wanted) in [
+        (ROOM, Ok(text)),
+        (n, Ok(text)),
+        (n - 1, Err(Told::from(short))),
+    ] {
+        if !agrees(line, room, wanted) {
+            return Verdict::Differs(room);
+        }
     }
     Verdict::Agrees
 }
 
-fn judge_refusal(input: &[u8], refusal: Refusal) -> Verdict {
-    if agrees(input, ROOM, Answer::Refused(refusal), b"") {
-        return Verdict::Agrees;
-    }
-    Verdict::Differs(ROOM)
-}
-
-fn are_fields(input: &[u8]) -> bool {
-    kinds::are_fields(b"wxnnnffffbbffnniin", input)
-        || kinds::are_fields(b"wxnnnffffbbffnnii", input)
-}
-
-pub(crate) fn judge(input: &[u8], answer: &[u8]) -> Verdict {
-    if !are_fields(input) {
-        return Verdict::Malformed;
-    }
-    if let Float::Malformed = float_of(input) {
-        return Verdict::Malformed;
-    }
-    match answer::of_text(answer) {
-        Answer::Number(_) => {
-            let start = fields::start_of(answer, 1);
-            judge_text(input, &answer[start..])
-        }
-        Answer::NotANumber => Verdict::Malformed,
-        Answer::Refused(refusal) => judge_refusal(input, refusal),
-        Answer::Malformed => Verdict::Malformed,
+fn judge_refusal(line: &Line, told: Told) -> Verdict {
+    if agrees(line, ROOM, Err(told)) {
+        Verdict::Agrees
+    } else {
+        Verdict::Differs(ROOM)
     }
 }
 
-fn length_of(answer: Answer) -> u64 {
-    let Answer::Number(n) = answer else {
-        return 0;
-    };
-    n
+pub(crate) fn judge(input: &[u8], answer: &[u8]) -> Result<Verdict, Malformed> {
+    let line = line_of(input)?;
+    Ok(match answer::of_text(answer)? {
+        Ok(text) => judge_text(&line, text),
+        Err(told) => judge_refusal(&line, told),
+    })
 }
 
-// A text of so many bytes, and whether a byte past it has changed.
-fn show_text(rt: &impl Print, n: u64, out: &[u8]) -> io::Result<()> {
-    if n > out.len() as u64 {
+// A text, and whether a byte past it has changed.
+fn show_text(rt: &impl Print, n: usize, space: &[u8]) -> io::Result<()> {
+    let Some((text, behind)) = space.split_at_checked(n) else {
         return Ok(());
+    };
+    if !text.is_empty() {
+        print!(rt; " ")?;
+        rt.write_all(text)?;
     }
-    let end = n as usize;
-    if end > 0 {
-        print::text(rt, b" ")?;
-        print::text(rt, &out[0..end])?;
-    }
-    if !lent::is_filled(&out[end..]) {
-        print::text(rt, b", and changed a byte past it")?;
+    if !lent::is_filled(behind) {
+        print!(rt; ", and changed a byte past it")?;
     }
     Ok(())
 }
 
+// `<answer> <text>` of a call with so many bytes.
+fn show_call(rt: &impl Print, line: &Line, room: usize) -> io::Result<()> {
+    let mut space = [lent::FILL; ROOM];
+    let Some(out) = space.get_mut(..room) else {
+        return Ok(());
+    };
+    let given = call(line, out);
+    match given {
+        Ok(n) => print!(rt; "{n}")?,
+        Err(refusal) => print!(rt; "{refusal}")?,
+    }
+    show_text(rt, given.unwrap_or(0), &space)
+}
+
 // `with <room> bytes <answer> <text>`
 pub(crate) fn show(rt: &impl Print, input: &[u8], room: usize) -> io::Result<()> {
-    let mut space = filled();
-    let given = call_with(input, room, &mut space);
-    print::text(rt, b"with ")?;
-    print::number(rt, room as u64)?;
-    print::text(rt, b" bytes ")?;
-    print::answer(rt, given, false)?;
-    show_text(rt, length_of(given), &space)
+    print!(rt; "with {room} bytes ")?;
+    match line_of(input) {
+        Ok(line) => show_call(rt, &line, room),
+        Err(malformed) => print!(rt; "{malformed}"),
+    }
 }

@@ -1,195 +1,78 @@
 // Each float through the week: Tuesday's text, Wednesday's and Thursday's stations as a chain, and the bits that Friday reads.
+
 use crate::{formats, print};
-use lexical_read_float::{ReadF32, ReadF64, read_f32, read_f64};
-use lexical_rewrite::{Chained, RECORD_SIZE, chain_f32, chain_f64};
-use lexical_util::Written;
-use lexical_write_float::{LONGEST_TEXT, write_f32, write_f64};
+use lexical_float::Float;
+use lexical_read_float::read_float;
+use lexical_rewrite::{RECORD_SIZE, chain_float};
+use lexical_write_float::{LONGEST_TEXT, write_float};
 use std::io;
 
-const ROOM: usize = LONGEST_TEXT;
-
-pub(crate) fn room() -> [u8; ROOM] {
-    [0; ROOM]
-}
-
-// Any NaN where the bits are a NaN's; none of the list are.
-fn f64_of(bits: u64) -> f64 {
-    if bits % 0x8000_0000_0000_0000 > 0x7ff0_0000_0000_0000 {
-        return 0.0 / 0.0;
+fn print_float<F: Float>(rt: &impl Print, x: F) -> io::Result<()> {
+    if x.is_nan() {
+        return print!(rt; "NaN");
     }
-    f64::from_bits(bits)
-}
-
-fn f32_of(bits: u32) -> f32 {
-    if bits % 0x8000_0000 > 0x7f80_0000 {
-        return 0.0 / 0.0;
-    }
-    f32::from_bits(bits)
-}
-
-// A NaN is told by `x != x`: its bits are not defined.
-fn print_f64(rt: &impl Print, x: f64) -> io::Result<()> {
-    if x != x {
-        return print::text(rt, b"NaN");
-    }
-    print::hex(rt, f64::to_bits(x))
-}
-
-fn print_f32(rt: &impl Print, x: f32) -> io::Result<()> {
-    if x != x {
-        return print::text(rt, b"NaN");
-    }
-    let bits = f32::to_bits(x);
-    print::hex(rt, bits as u64)
+    print!(rt; "{:x}", x.to_bits())
 }
 
 // Friday: the last text is read.
-fn friday_f64(rt: &impl Print, text: &[u8]) -> io::Result<()> {
+fn friday<F: Float>(rt: &impl Print, text: &[u8]) -> io::Result<()> {
     let thursday = formats::thursday();
-    match read_f64(text, thursday.format, thursday.options) {
-        ReadF64::Float(x) => print_f64(rt, x),
-        ReadF64::Refused(r) => print::refusal(rt, r),
-    }
-}
-
-fn arrived_f64(rt: &impl Print, answer: Chained, out: &[u8]) -> io::Result<()> {
-    print::chained(rt, answer, out)?;
-    print::text(rt, b" ")?;
-    match answer {
-        Chained::Length(n) => friday_f64(rt, print::front(out, n)),
-        Chained::ReadingRefused(_, _) => Ok(()),
-        Chained::WritingRefused(_, _) => Ok(()),
+    match read_float::<F>(text, thursday.format, thursday.options) {
+        Ok(x) => print_float(rt, x),
+        Err(refusal) => print!(rt; "{refusal}"),
     }
 }
 
 // Wednesday and Thursday: two stations.
-fn stations_f64(rt: &impl Print, text: &[u8]) -> io::Result<()> {
+fn stations<F: Float>(rt: &impl Print, text: &[u8]) -> io::Result<()> {
     let records = formats::RECORDS;
-    let mut out = room();
-    let first = formats::wednesday();
-    let answer = chain_f64(
+    let mut out = [0; LONGEST_TEXT];
+    let answer = chain_float::<F>(
         text,
         formats::tuesday(),
-        first,
-        &records[0..RECORD_SIZE],
+        formats::wednesday(),
+        &records[..RECORD_SIZE],
         &mut out,
     );
-    arrived_f64(rt, answer, &out)
-}
-
-fn written_f64(rt: &impl Print, answer: Written, out: &[u8]) -> io::Result<()> {
-    print::answer(rt, answer, out)?;
-    print::text(rt, b" ")?;
+    print::chained(rt, answer, &out)?;
+    print!(rt; " ")?;
     match answer {
-        Written::Length(n) => stations_f64(rt, print::front(out, n)),
-        Written::Refused(_) => Ok(()),
+        Ok(n) => friday::<F>(rt, print::front(&out, n)),
+        Err(_) => Ok(()),
     }
 }
 
-// Tuesday: the float becomes a text.
-fn tuesday_f64(rt: &impl Print, bits: u64) -> io::Result<()> {
+// Tuesday: the float becomes a text. Any NaN where the bits are a NaN's; none of the list are.
+fn tuesday<F: Float>(rt: &impl Print, bits: u64) -> io::Result<()> {
     let tuesday = formats::tuesday();
-    let mut out = room();
-    let answer = write_f64(f64_of(bits), tuesday.format, tuesday.options, &mut out);
-    written_f64(rt, answer, &out)
-}
-
-// Friday: the last text is read.
-fn friday_f32(rt: &impl Print, text: &[u8]) -> io::Result<()> {
-    let thursday = formats::thursday();
-    match read_f32(text, thursday.format, thursday.options) {
-        ReadF32::Float(x) => print_f32(rt, x),
-        ReadF32::Refused(r) => print::refusal(rt, r),
+    let mut out = [0; LONGEST_TEXT];
+    let x = F::from_bits(bits);
+    match write_float(x, tuesday.format, tuesday.options, &mut out) {
+        Ok(n) => {
+            let text = print::front(&out, n);
+            rt.write_all(text)?;
+            print!(rt; " ")?;
+            stations::<F>(rt, text)
+        }
+        Err(refusal) => print!(rt; "{refusal} "),
     }
 }
 
-fn arrived_f32(rt: &impl Print, answer: Chained, out: &[u8]) -> io::Result<()> {
-    print::chained(rt, answer, out)?;
-    print::text(rt, b" ")?;
-    match answer {
-        Chained::Length(n) => friday_f32(rt, print::front(out, n)),
-        Chained::ReadingRefused(_, _) => Ok(()),
-        Chained::WritingRefused(_, _) => Ok(()),
-    }
-}
-
-// Wednesday and Thursday: two stations.
-fn stations_f32(rt: &impl Print, text: &[u8]) -> io::Result<()> {
-    let records = formats::RECORDS;
-    let mut out = room();
-    let first = formats::wednesday();
-    let answer = chain_f32(
-        text,
-        formats::tuesday(),
-        first,
-        &records[0..RECORD_SIZE],
-        &mut out,
-    );
-    arrived_f32(rt, answer, &out)
-}
-
-fn written_f32(rt: &impl Print, answer: Written, out: &[u8]) -> io::Result<()> {
-    print::answer(rt, answer, out)?;
-    print::text(rt, b" ")?;
-    match answer {
-        Written::Length(n) => stations_f32(rt, print::front(out, n)),
-        Written::Refused(_) => Ok(()),
-    }
-}
-
-// Tuesday: the float becomes a text.
-fn tuesday_f32(rt: &impl Print, bits: u32) -> io::Result<()> {
-    let tuesday = formats::tuesday();
-    let mut out = room();
-    let answer = write_f32(f32_of(bits), tuesday.format, tuesday.options, &mut out);
-    written_f32(rt, answer, &out)
-}
-
-fn week_f64(rt: &impl Print, bits: u64) -> io::Result<()> {
-    print::text(rt, b"f64 ")?;
-    print::hex(rt, bits)?;
-    print::text(rt, b": ")?;
-    tuesday_f64(rt, bits)?;
-    print::text(rt, b"\n")
-}
-
-fn week_f32(rt: &impl Print, bits: u32) -> io::Result<()> {
-    print::text(rt, b"f32 ")?;
-    print::hex(rt, bits as u64)?;
-    print::text(rt, b": ")?;
-    tuesday_f32(rt, bits)?;
-    print::text(rt, b"\n")
-}
-
-// The float, and the one with its sign bit set.
-fn both_f64(rt: &impl Print, bits: u64) -> io::Result<()> {
-    week_f64(rt, bits)?;
-    week_f64(rt, bits | 0x8000_0000_0000_0000)
-}
-
-fn both_f32(rt: &impl Print, bits: u32) -> io::Result<()> {
-    week_f32(rt, bits)?;
-    week_f32(rt, bits | 0x8000_0000)
+// `<width> <bits>: <Tuesday's text> <Thursday's> <the bits of Friday's float>`
+fn week<F: Float>(rt: &impl Print, bits: u64) -> io::Result<()> {
+    print!(rt; "{} {bits:x}: ", F::WIDTH)?;
+    tuesday::<F>(rt, bits)?;
+    println!(rt; "")
 }
 
 // A text that no float is written as, from Wednesday on.
-fn sent_f64(rt: &impl Print, text: &[u8]) -> io::Result<()> {
-    print::text(rt, b"f64 ")?;
-    print::text(rt, text)?;
-    print::text(rt, b": ")?;
-    stations_f64(rt, text)?;
-    print::text(rt, b"\n")
+fn sent<F: Float>(rt: &impl Print, text: &str) -> io::Result<()> {
+    print!(rt; "{} {text}: ", F::WIDTH)?;
+    stations::<F>(rt, text.as_bytes())?;
+    println!(rt; "")
 }
 
-fn sent_f32(rt: &impl Print, text: &[u8]) -> io::Result<()> {
-    print::text(rt, b"f32 ")?;
-    print::text(rt, text)?;
-    print::text(rt, b": ")?;
-    stations_f32(rt, text)?;
-    print::text(rt, b"\n")
-}
-
-const F64: [u64; 18] = [
+const WIDE: [u64; 18] = [
     0,
     1,
     2,
@@ -210,7 +93,7 @@ const F64: [u64; 18] = [
     0x7fef_ffff_ffff_ffff,
 ];
 
-const F32: [u32; 12] = [
+const NARROW: [u32; 12] = [
     0,
     1,
     2,
@@ -225,41 +108,40 @@ const F32: [u32; 12] = [
     0x7f7f_ffff,
 ];
 
-fn run_f64(rt: &impl Print) -> io::Result<()> {
-    for bits in &F64 {
-        both_f64(rt, *bits)?;
+// Each float, and the one with its sign bit set.
+fn floats(rt: &impl Print) -> io::Result<()> {
+    for bits in WIDE {
+        week::<f64>(rt, bits)?;
+        week::<f64>(rt, bits | 0x8000_0000_0000_0000)?;
     }
-    Ok(())
-}
-
-fn run_f32(rt: &impl Print) -> io::Result<()> {
-    for bits in &F32 {
-        both_f32(rt, *bits)?;
+    for bits in NARROW {
+        week::<f32>(rt, u64::from(bits))?;
+        week::<f32>(rt, u64::from(bits | 0x8000_0000))?;
     }
     Ok(())
 }
 
 // A "never" end that a station wrote as the largest float with a digit more, and the like with a sign: every later text is that float's.
 fn nevers(rt: &impl Print) -> io::Result<()> {
-    sent_f64(rt, b"F.FFFFFFFFFFFF8Fp1020")?;
-    sent_f64(rt, b"-F.FFFFFFFFFFFF8Fp1020")?;
-    sent_f32(rt, b"F.FFFFF7p124")?;
-    sent_f32(rt, b"-F.FFFFF7p124")
+    sent::<f64>(rt, "F.FFFFFFFFFFFF8Fp1020")?;
+    sent::<f64>(rt, "-F.FFFFFFFFFFFF8Fp1020")?;
+    sent::<f32>(rt, "F.FFFFF7p124")?;
+    sent::<f32>(rt, "-F.FFFFF7p124")
 }
 
 // A magnitude of half the least float rounds to zero, which keeps its sign; one of three quarters does not.
 fn vanishing(rt: &impl Print) -> io::Result<()> {
-    sent_f64(rt, b"1p-1075")?;
-    sent_f64(rt, b"-1p-1075")?;
-    sent_f64(rt, b"-3p-1076")?;
-    sent_f32(rt, b"1p-150")?;
-    sent_f32(rt, b"-1p-150")?;
-    sent_f32(rt, b"-3p-151")
+    for text in ["1p-1075", "-1p-1075", "-3p-1076"] {
+        sent::<f64>(rt, text)?;
+    }
+    for text in ["1p-150", "-1p-150", "-3p-151"] {
+        sent::<f32>(rt, text)?;
+    }
+    Ok(())
 }
 
 pub(crate) fn run(rt: &impl Print) -> io::Result<()> {
-    run_f64(rt)?;
-    run_f32(rt)?;
+    floats(rt)?;
     nevers(rt)?;
     vanishing(rt)
 }

@@ -9,10 +9,10 @@ pub returns-then-byte-lt33 : goal.returns-then-byte-lt33
 unfolding bad_byte
 returns-then-byte-lt33 c = grind (arith, nat_tests)
 
-pub returns-in-Digit : goal.returns-in-Digit
+pub returns-in-Some : goal.returns-in-Some
 unfolding bad_byte
-returns-in-Digit c = let e = digit_of c.args.radix _ _ (sym c.in-Digit.ensures) in grind (arith, nat_tests, e)
+returns-in-Some c = let e = digit_of c.args.radix _ _ (sym c.in-Some.ensures) in grind (arith, nat_tests, e)
 
-pub returns-in-NoDigit : goal.returns-in-NoDigit
+pub returns-in-None : goal.returns-in-None
 unfolding bad_byte
-returns-in-NoDigit c = let e = no_digit c.args.radix _ (sym c.in-NoDigit.ensures) in grind (arith, nat_tests, e)
+returns-in-None c = let e = no_digit c.args.radix _ (sym c.in-None.ensures) in grind (arith, nat_tests, e)

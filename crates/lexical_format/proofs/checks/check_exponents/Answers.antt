@@ -27,15 +27,15 @@ returns-then-outside c =
     let h = high (goal.at.returns-then-outside c).After-or_absent-high in
     let is = c.outside.ensures ∙ ap (outside (neg_ℤ (pos farthest_break)) (negsuc 0)) l in
     elim c.then-outside.branch [
-      | then-outside-via-then-outside w ↦ rw (sym is ∙ w.if-outside.true)
-      | then-outside-via-else-outside+then-outside-2 w ↦ rw (sym is ∙ w.if-outside.false, sym (w.outside-else-outside.ensures ∙ ap (outside (pos 1) (pos farthest_break)) h) ∙ w.if-outside-2.true)
+      | then-outside-via-then-outside w ↦ rw (c.at.ensures, sym is ∙ w.if-outside.true)
+      | then-outside-via-else-outside+then-outside-2 w ↦ rw (c.at.ensures, sym is ∙ w.if-outside.false, sym (w.outside-else-outside.ensures ∙ ap (outside (pos 1) (pos farthest_break)) h) ∙ w.if-outside-2.true)
     ]
 
 pub returns-then-not-is_width : goal.returns-then-not-is_width
 returns-then-not-is_width c =
     let l = low (goal.at.returns-then-not-is_width c).After-or_absent-low in
     let h = high (goal.at.returns-then-not-is_width c).After-or_absent-high in
-    rw (within c.args.options (rw l at (sym c.outside.ensures ∙ c.if-outside.false)) (rw h at (sym c.outside-else-outside.ensures ∙ c.if-outside-2.false)), sym c.is_width.ensures, c.if-not-is_width.true)
+    rw (c.at-then-not-is_width.ensures, within c.args.options (rw l at (sym c.outside.ensures ∙ c.if-outside.false)) (rw h at (sym c.outside-else-outside.ensures ∙ c.if-outside-2.false)), sym c.is_width.ensures, c.if-not-is_width.true)
 
 pub returns : goal.returns
 returns c =

@@ -46,7 +46,7 @@ down_is : (c : After-powers_of-powers) → c.powers_of-powers.result.down ≡ he
 down_is c = ap (λ (x : Powers). x.down) c.powers_of-powers.ensures
 
 pub returns-then-power-gt-GREATEST_EXPONENT-clause-by_index : goal.returns-then-power-gt-GREATEST_EXPONENT-clause-by_index
-returns-then-power-gt-GREATEST_EXPONENT-clause-by_index c = λ t power s are is. let a = c.args in refused_ten _ a.row power t s a.number is c.if-power-gt-GREATEST_EXPONENT.true
+returns-then-power-gt-GREATEST_EXPONENT-clause-by_index c = λ t power s are is. let a = c.args in rw c.at.ensures (refused_ten _ a.row power t s a.number is c.if-power-gt-GREATEST_EXPONENT.true)
 
 pub powers_of-powers-requires : goal.powers_of-powers-requires
 powers_of-powers-requires c = (places_few (goal.at.powers_of-powers-requires c).After-powers_in_bits, (power_few (goal.at.powers_of-powers-requires c).After-powers_in_bits).1)

@@ -28,4 +28,4 @@ loop-i-preserved c = let a = c.args in
     (omega arith, omega (arith, c.saturated-magnitude.ensures), end_on _ _ _ _ c.loop-i.invariant.2 _ more, sum_on _ _ _ _ c.loop-i.invariant.3 _ _ _ c.requires.1 more c.saturated-magnitude.ensures)
 
 pub returns : goal.returns
-returns c = stopped (goal.at.returns c).At-loop-i (from_end _ _ _ c.loop-i-test.false)
+returns c = let end : c.loop-i.i ≡ length c.args.text.now = omega arith in rw end at (stopped (goal.at.returns c).At-loop-i (from_end _ _ _ c.loop-i-test.false))

@@ -26,4 +26,4 @@ loop-i-preserved c = let a = c.args in
     (omega arith, end_on _ _ _ _ c.loop-i.invariant.1 _ more, zeros_on c.loop-i.seen _ _ _ _ c.loop-i.invariant.2 more)
 
 pub returns : goal.returns
-returns c = stopped (goal.at.returns c).At-loop-i (from_end _ _ _ c.loop-i-test.false)
+returns c = let end : c.loop-i.i ≡ length c.args.text.now = omega arith in rw end at (stopped (goal.at.returns c).At-loop-i (from_end _ _ _ c.loop-i-test.false))

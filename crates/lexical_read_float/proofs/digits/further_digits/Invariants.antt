@@ -1,5 +1,5 @@
 -- `lexical_read_float::digits::further_digits` meets its contract: at each place the digits so far are 0 and those still to come, or not all are. Assumes nothing.
-use Prim.Native.Nat.{◌-◌, ◌≤◌}
+use Prim.Native.Nat.{◌≤◌}
 use mathlib.Core.Bool.{◌&&◌}
 use mathlib.Core.Path.{◌≡◌}
 use lib.Dec.{eqb}
@@ -10,6 +10,3 @@ use Rattle.lexical_read_float.proofs.digits.further_digits.Given as goal
 abbrev pub invariant-loop-i : goal.invariant-loop-i
 invariant-loop-i l =
     (l.i ≤ length l.text) × (end_from l.radix l.text l.i ≡ end_from l.radix l.text l.from) × ((eqb l.seen 0 && all_zero (digits_from l.radix l.text l.i)) ≡ all_zero (digits_from l.radix l.text l.from))
-
-abbrev pub decreases-loop-i : goal.decreases-loop-i
-decreases-loop-i l = length l.text - l.i

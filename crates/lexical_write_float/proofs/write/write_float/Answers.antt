@@ -1,22 +1,12 @@
--- `lexical_write_float::write::write_float` meets its contract: the normal form is the float's own, and the limited value may be written. Assumes nothing.
-use mathlib.Core.Path.{ap, ◌∙◌}
-use mathlib.Core.List.{List}
-use Prim.Native.Nat.{ℕ}
-use lib.ListN.{length}
-use Rattle.lexical_util.specs.Answer.{done, held}
-use Rattle.lexical_write_float.proofs.FloatLaws.{normal_near, limited_near, limited_text_lem}
-use Rattle.lexical_write_float.proofs.TextLaws.{known}
+-- `lexical_write_float::write::write_float` meets its contract: what the parts are asked for, the float is asked for. Assumes nothing.
+use Rattle.lexical_write_float.proofs.AnswerLaws.{float_answered, of_float}
 use Rattle.lexical_write_float.proofs.write.write_float.Goals as goal
 
-pub truncate_and_round-limited-requires : goal.truncate_and_round-limited-requires
-truncate_and_round-limited-requires c = let K = known _ _ _ c.requires.0 in
-    let n = normal_near _ c.requires.1 _ c.normalized-exact.ensures in
-    (n.0, n.1, K.some_bits, K.few_bits, K.few_most)
-
-pub write_value-requires : goal.write_value-requires
-write_value-requires c = (c.requires.0, limited_near _ c.requires.1 _ c.normalized-exact.ensures _ _ _ _ (known _ _ _ c.requires.0).some_bits c.truncate_and_round-limited.ensures)
+pub write_parts-requires : goal.write_parts-requires
+write_parts-requires g c = of_float g.F.Float.format (g.F.Float.value c.args.x) _ c.parts.ensures.fits c.parts.ensures.parts c.parts.ensures.value
 
 pub returns : goal.returns
-returns c = let a = c.args in
-    let same = limited_text_lem _ c.requires.1 _ c.normalized-exact.ensures a.format a.options a.checked _ c.truncate_and_round-limited.ensures in
-    record { value = c.write_value.ensures.value ∙ ap length same; buffer_after = c.write_value.ensures.buffer_after ∙ ap (λ (x : List ℕ). held (done x) a.buffer.now) same }
+returns g c =
+    let p = c.parts.ensures in
+    let f = float_answered g.F.Float.format c.args.format c.args.options (g.F.Float.value c.args.x) c.args.buffer.now p.fits _ _ _ p.parts p.value c.write_parts.ensures.result_value c.write_parts.ensures.buffer_after in
+    record { result_value = f.0; buffer_after = f.1.0; longest = f.1.1.0; served = f.1.1.1 }

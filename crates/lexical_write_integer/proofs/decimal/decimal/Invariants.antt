@@ -11,6 +11,3 @@ invariant-loop-i l =
     (last_numeral 10 l.count l.value ++ drop l.count l.initial.buffer ≡ last_numeral 10 l.i l.v ++ drop l.i l.buffer)
     × (length l.buffer ≡ length l.initial.buffer)
     × (l.i ≤ l.count)
-
-abbrev pub decreases-loop-i : goal.decreases-loop-i
-decreases-loop-i l = l.i

@@ -1,5 +1,5 @@
 -- `lexical_write_integer::mantissa::zeros_in_front` meets its contract: a digit that no u64 reaches is 0. Assumes nothing.
-use Prim.Native.Nat.{ℕ, ◌+◌, ◌-◌, ◌/◌, ◌^◌, ◌≤◌, ◌<◌}
+use Prim.Native.Nat.{ℕ, ◌+◌, ◌/◌, ◌^◌, ◌≤◌, ◌<◌}
 use mathlib.Core.Path.{◌≡◌}
 use lib.ListN.{length}
 use Rattle.lexical_write_integer_spec.specs.Write.{last_numeral}
@@ -12,6 +12,3 @@ invariant-loop-at l =
     × (length l.buffer ≡ length l.initial.buffer)
     × (l.at ≤ l.count)
     × (l.most ≡ 63 / l.b + 1)
-
-abbrev pub decreases-loop-at : goal.decreases-loop-at
-decreases-loop-at l = l.count - l.at

@@ -43,23 +43,23 @@ module _ (c : After-digit_count-count) where
 pub returns-then-not-is_radix : goal.returns-then-not-is_radix
 returns-then-not-is_radix c = let a = c.args in
     let f = steps_unknown a.value a.radix a.width a.at a.buffer.now (sym c.is_radix.ensures ∙ not-true _ c.if-not-is_radix.true-raw) in
-    record { result_value = f.0; buffer_after = f.1; adds = f.2 }
+    record { result_value = rw c.at.ensures f.0; buffer_after = f.1; adds = rw c.at.ensures f.2 }
 
 pub returns-then-radix-eq10 : goal.returns-then-radix-eq10
 returns-then-radix-eq10 c = let a = c.args in
     let f = steps_decimal a.value a.radix a.width a.at a.buffer.now c.if-radix-eq10.true in
-    record { result_value = f.0; buffer_after = f.1; adds = f.2 }
+    record { result_value = rw c.at-then-radix-eq10.ensures f.0; buffer_after = f.1; adds = rw c.at-then-radix-eq10.ensures f.2 }
 
 pub returns-then-not-is_width : goal.returns-then-not-is_width
 returns-then-not-is_width c = let a = c.args in
     let f = steps_no_width a.value a.radix a.width a.at a.buffer.now (known (goal.at.returns-then-not-is_width c).Else-not-is_radix) c.if-radix-eq10.false (sym c.is_width.ensures ∙ not-true _ c.if-not-is_width.true-raw) in
-    record { result_value = f.0; buffer_after = f.1; adds = f.2 }
+    record { result_value = rw c.at-then-not-is_width.ensures f.0; buffer_after = f.1; adds = rw c.at-then-not-is_width.ensures f.2 }
 
 pub returns-then-count-buffer : goal.returns-then-count-buffer
 returns-then-count-buffer c =
     let d = (goal.at.returns-then-count-buffer c).After-digit_count-count in
     let f = step_short _ (text d) c.args.buffer.now c.args.at _ (asked d) (counted d) (omega arith) in
-    record { result_value = f.0; buffer_after = f.1; adds = f.2 }
+    record { result_value = rw c.at-then-count-buffer.ensures f.0; buffer_after = f.1; adds = rw c.at-then-count-buffer.ensures f.2 }
 
 pub returns-then-count-at : goal.returns-then-count-at
 returns-then-count-at c =

@@ -18,17 +18,17 @@ wide c = sym c.is_width.ensures ∙ not-false _ c.if-not-is_width.false-raw
 pub returns-then-not-is_radix : goal.returns-then-not-is_radix
 returns-then-not-is_radix c = let a = c.args in
     let f = unknown a.value a.radix a.width a.buffer.now (sym c.is_radix.ensures ∙ not-true _ c.if-not-is_radix.true-raw) in
-    record { result_value = f.0; buffer_after = f.1 }
+    record { result_value = rw c.at.ensures f.0; buffer_after = f.1 }
 
 pub returns-then-not-is_width : goal.returns-then-not-is_width
 returns-then-not-is_width c = let a = c.args in
     let f = no_width a.value a.radix a.width a.buffer.now (known (goal.at.returns-then-not-is_width c).Else-not-is_radix) (sym c.is_width.ensures ∙ not-true _ c.if-not-is_width.true-raw) in
-    record { result_value = f.0; buffer_after = f.1 }
+    record { result_value = rw c.at-then-not-is_width.ensures f.0; buffer_after = f.1 }
 
 pub returns-then-count-buffer : goal.returns-then-count-buffer
 returns-then-count-buffer c = let a = c.args in
     let f = short a.value a.radix a.width _ a.buffer.now (known (goal.at.returns-then-count-buffer c).Else-not-is_radix) (wide (goal.at.returns-then-count-buffer c).Else-not-is_width) c.digit_count-count.ensures (omega arith) in
-    record { result_value = f.0; buffer_after = f.1 }
+    record { result_value = rw c.at-then-count-buffer.ensures f.0; buffer_after = f.1 }
 
 pub write_digits-requires : goal.write_digits-requires
 write_digits-requires c = let a = c.args in

@@ -16,16 +16,16 @@ field : (c : After-word_of) → let t = c.args.table.now in c.word_of.result ≡
 field c = let t = c.args.table.now in c.word_of.ensures ∙ part_word t 4 8 4 refl (omega arith)
 
 pub returns-then-table-lt-HEADER_SIZE : goal.returns-then-table-lt-HEADER_SIZE
-returns-then-table-lt-HEADER_SIZE c = c.wrong.ensures ∙ count_short _ _ (omega arith)
+returns-then-table-lt-HEADER_SIZE c = λ number. count_short number _ (omega arith)
 
 pub returns-then-n-gt-MOST : goal.returns-then-n-gt-MOST
-returns-then-n-gt-MOST c = c.wrong-then-n-gt-MOST.ensures ∙ count_many _ _ _ (count (goal.at.returns-then-n-gt-MOST c).After-word_of-n) (omega arith) (omega arith)
+returns-then-n-gt-MOST c = λ number. count_many number _ _ (count (goal.at.returns-then-n-gt-MOST c).After-word_of-n) (omega arith) (omega arith)
 
 pub returns-then-word_of-n : goal.returns-then-word_of-n
-returns-then-word_of-n c = c.wrong-then-word_of-n.ensures ∙ count_field _ _ _ (count (goal.at.returns-then-word_of-n c).After-word_of-n) (omega arith) _ (field (goal.at.returns-then-word_of-n c).After-word_of) (omega arith) c.if-word_of-n.true
+returns-then-word_of-n c = λ number. count_field number _ _ (count (goal.at.returns-then-word_of-n c).After-word_of-n) (omega arith) _ (field (goal.at.returns-then-word_of-n c).After-word_of) (omega arith) c.if-word_of-n.true
 
 pub returns-then-table-n : goal.returns-then-table-n
-returns-then-table-n c = c.wrong-then-table-n.ensures ∙ count_lent _ _ _ (count (goal.at.returns-then-table-n c).After-word_of-n) (omega arith) _ (field (goal.at.returns-then-table-n c).After-word_of) (omega arith) (omega arith) c.if-table-n.true
+returns-then-table-n c = λ number. count_lent number _ _ (count (goal.at.returns-then-table-n c).After-word_of-n) (omega arith) _ (field (goal.at.returns-then-table-n c).After-word_of) (omega arith) (omega arith) c.if-table-n.true
 
 pub returns : goal.returns
-returns c = count_is _ _ _ (count (goal.at.returns c).After-word_of-n) (omega arith) _ (field (goal.at.returns c).After-word_of) (omega arith) (omega arith) (omega arith)
+returns c = λ number. count_is number _ _ (count (goal.at.returns c).After-word_of-n) (omega arith) _ (field (goal.at.returns c).After-word_of) (omega arith) (omega arith) (omega arith)

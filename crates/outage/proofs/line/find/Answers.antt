@@ -4,8 +4,8 @@ use native.Mathlib.Omega.{arith}
 use Rattle.outage.proofs.FindLaws.{before_more, before_here, before_none}
 use Rattle.outage.proofs.line.find.Goals as goal
 
-pub returns-then-text-at-clause-value : goal.returns-then-text-at-clause-value
-returns-then-text-at-clause-value c = let l = c.loop-at in
+pub returns-then-here-byte-clause-value : goal.returns-then-here-byte-clause-value
+returns-then-here-byte-clause-value c = let l = c.loop-at in
     let a = c.args in
     omega (arith, before_here a.byte a.text.now l.at (omega arith) (omega arith))
 

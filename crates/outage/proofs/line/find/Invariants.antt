@@ -1,5 +1,5 @@
 -- `outage::line::find` meets its contract. The loop's invariant: the place, and how far the byte is from there, make the place of the byte in the whole. Assumes nothing.
-use Prim.Native.Nat.{◌+◌, ◌-◌, ◌≤◌}
+use Prim.Native.Nat.{◌+◌, ◌≤◌}
 use mathlib.Core.Path.{◌≡◌}
 use lib.ListN.{length, drop}
 use Rattle.outage_spec.specs.Sheet.{before}
@@ -7,6 +7,3 @@ use Rattle.outage.proofs.line.find.Given as goal
 
 abbrev pub invariant-loop-at : goal.invariant-loop-at
 invariant-loop-at l = (l.at + length (before l.byte (drop l.at l.text)) ≡ length (before l.byte l.text)) × (l.at ≤ length l.text)
-
-abbrev pub decreases-loop-at : goal.decreases-loop-at
-decreases-loop-at l = length l.text - l.at

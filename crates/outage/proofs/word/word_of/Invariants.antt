@@ -1,12 +1,10 @@
--- `outage::word::word_of` meets its contract. The loop's invariant: the number so far is that of the bytes from `left` on. Assumes nothing.
-use Prim.Native.Nat.{◌≤◌}
+-- `outage::word::word_of` meets its contract. The loop's invariant: the number so far is that of the bytes so far, the last one first. Assumes nothing.
+use Prim.Native.Nat.{◌<◌, ◌^◌}
 use mathlib.Core.Path.{◌≡◌}
-use lib.ListN.{length, take, drop}
+use mathlib.Core.List.{map, reverse}
+use lib.ListN.{length}
 use Rattle.outage_spec.specs.Words.{of_bytes}
 use Rattle.outage.proofs.word.word_of.Given as goal
 
-abbrev pub invariant-loop-left : goal.invariant-loop-left
-invariant-loop-left l = (l.word ≡ of_bytes (drop l.left (take 8 l.bytes))) × (l.left ≤ length (take 8 l.bytes))
-
-abbrev pub decreases-loop-left : goal.decreases-loop-left
-decreases-loop-left l = l.left
+abbrev pub invariant-loop-byte : goal.invariant-loop-byte
+invariant-loop-byte l = (l.word ≡ of_bytes (reverse (map (λ y. y.now) l.yielded))) × (l.word < 256 ^ length l.yielded)

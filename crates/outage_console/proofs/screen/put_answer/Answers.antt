@@ -2,5 +2,5 @@
 use Rattle.outage_console.proofs.ScreenLaws.{put_line}
 use Rattle.outage_console.proofs.screen.put_answer.Goals as goal
 
-pub returns-in-Refused-clause-out_after : goal.returns-in-Refused-clause-out_after
-returns-in-Refused-clause-out_after c = rw c.in-Refused.is (put_line _ _ _ _ _ c.put_refusal.ensures).1
+pub returns-in-Err-clause-out_after : goal.returns-in-Err-clause-out_after
+returns-in-Err-clause-out_after c = rw c.in-Err.is (put_line _ _ _ _ _ c.put_refusal.ensures).1

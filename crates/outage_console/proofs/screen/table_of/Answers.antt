@@ -6,7 +6,7 @@ use Rattle.outage_console.proofs.screen.table_of.Goals as goal
 
 pub returns-then-sheet-gt-LONGEST_SHEET_READ : goal.returns-then-sheet-gt-LONGEST_SHEET_READ
 returns-then-sheet-gt-LONGEST_SHEET_READ c = let a = c.args in
-    record { result_value = rw (← reading_long a.format a.sheet.now (omega arith)); table_after = rw (← reading_long a.format a.sheet.now (omega arith)) }
+    record { result_value = rw (c.at.ensures, ← reading_long a.format a.sheet.now (omega arith)); table_after = rw (← reading_long a.format a.sheet.now (omega arith)) }
 
 pub returns : goal.returns
 returns c =

@@ -7,7 +7,9 @@ use Rattle.outage_planes.proofs.archive.pack.Goals as goal
 pub returns : goal.returns
 unfolding packed_table
 returns c = let e = c.transpose.ensures in
-    let a = c.args in
-    let answers = rw (← table_header a.table.now) at e.result_value in
-    let leaves = rw (← table_header a.table.now) at e.target_after in
-    record { result_value = answers; packed_after = leaves; unpacks_back = unpacks_back a.table.now a.packed.now _ _ answers leaves }
+    let t = c.args.table.now in
+    record {
+      result_value = rw (table_header t) e.result_value;
+      packed_after = rw (table_header t) e.target_after;
+      unpacks_back = unpacks_back t c.args.packed.now _ _ (rw (table_header t) e.result_value) (rw (table_header t) e.target_after);
+    }

@@ -11,7 +11,7 @@ use Rattle.outage_planes.proofs.PlaneLaws.{front_is, each_none, each_set}
 use Rattle.outage_planes.proofs.planes.fill_from_floats.Goals as goal
 
 pub loop-j-init : goal.loop-j-init
-loop-j-init c = let a = c.args in (each_none (take a.n) ∙ sym (bytes_none 8 a.table.now a.n a.at), omega arith, c.requires.0)
+loop-j-init c = let a = c.args in (each_none (take a.n) ∙ sym (bytes_none 8 a.table.now a.n a.at), omega arith, c.told-planes)
 
 pub loop-j-preserved : goal.loop-j-preserved
 loop-j-preserved c = let l = c.loop-j in

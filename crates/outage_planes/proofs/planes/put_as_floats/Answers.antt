@@ -12,4 +12,4 @@ pub loop-i-preserved : goal.loop-i-preserved
 loop-i-preserved c = let l = c.loop-i in
     let a = c.args in
     let more = puts_more _ _ _ (omega arith) l.invariant.0 c.put_float-next.ensures in
-    (rw (across_more l.i a.planes.now) at more, omega (arith, c.put_float-next.ensures.next_is, across_length l.i a.planes.now, c.requires.0), omega arith, c.put_float-next.auto.table ∙ l.invariant.3)
+    (rw (across_more l.i a.planes.now) at more, omega (arith, c.put_float-next.ensures.next_is, across_length l.i a.planes.now, c.told-planes), omega arith, c.put_float-next.auto.table ∙ l.invariant.3)

@@ -1,5 +1,5 @@
 -- `outage_planes::planes::put_as_floats` meets its contract. The loop's invariant: the first floats have been put. Assumes nothing.
-use Prim.Native.Nat.{◌+◌, ◌-◌, ◌*◌, ◌≤◌}
+use Prim.Native.Nat.{◌+◌, ◌*◌, ◌≤◌}
 use mathlib.Core.Path.{◌≡◌}
 use lib.ListN.{length}
 use Rattle.lexical_buffer.specs.Put.{Puts}
@@ -8,6 +8,3 @@ use Rattle.outage_planes.proofs.planes.put_as_floats.Given as goal
 
 abbrev pub invariant-loop-i : goal.invariant-loop-i
 invariant-loop-i l = Puts l.initial.table l.at (bytes_across 0 l.i l.planes) l.next l.table × (l.next ≡ l.at + 8 * l.i) × (l.i ≤ l.n) × (length l.table ≡ length l.initial.table)
-
-abbrev pub decreases-loop-i : goal.decreases-loop-i
-decreases-loop-i l = l.n - l.i

@@ -27,5 +27,5 @@ loop-j-preserved c = let l = c.loop-j in
 pub returns : goal.returns
 returns c = let l = c.loop-j in
     let a = c.args in
-    let all = each_all (λ p. get_or p a.i 0 ∷ []) a.planes.now l.j 8 c.requires.0 (omega arith) in
-    record { next_is = ap (λ (k : ℕ). a.at + k) (sym (across_length a.i a.planes.now ∙ c.requires.0)); out_is = rw all at l.invariant.0 }
+    let all = each_all (λ p. get_or p a.i 0 ∷ []) a.planes.now l.j 8 c.told-planes (omega arith) in
+    record { next_is = ap (λ (k : ℕ). a.at + k) (sym (across_length a.i a.planes.now ∙ c.told-planes)); out_is = rw all at l.invariant.0 }

@@ -1,5 +1,5 @@
 -- `outage_planes::planes::put_float` meets its contract. The loop's invariant: the first bytes have been put. Assumes nothing.
-use Prim.Native.Nat.{◌-◌, ◌≤◌}
+use Prim.Native.Nat.{◌≤◌}
 use mathlib.Core.Path.{◌≡◌}
 use mathlib.Core.List.{[], ◌∷◌}
 use lib.ListN.{length, take, get_or}
@@ -9,6 +9,3 @@ use Rattle.outage_planes.proofs.planes.put_float.Given as goal
 
 abbrev pub invariant-loop-j : goal.invariant-loop-j
 invariant-loop-j l = (l.table ≡ put l.initial.table l.at (of_each (λ p. get_or p l.i 0 ∷ []) (take l.j l.planes))) × (l.j ≤ 8) × (length l.table ≡ length l.initial.table)
-
-abbrev pub decreases-loop-j : goal.decreases-loop-j
-decreases-loop-j l = 8 - l.j

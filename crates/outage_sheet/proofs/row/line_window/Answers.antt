@@ -8,13 +8,13 @@ use Rattle.outage_sheet.proofs.row.line_window.Goals as goal
 
 pub returns-then-space-line : goal.returns-then-space-line
 returns-then-space-line c = let a = c.args in
-    sym (line_none a.format a.options a.line.now (omega (arith, c.find-space.ensures.value)))
+    rw c.at.ensures (sym (line_none a.format a.options a.line.now (omega (arith, c.find-space.ensures.value))))
 
 pub returns-then-find-end : goal.returns-then-find-end
 returns-then-find-end c = let a = c.args in
     let f = c.find-space in
     let g = c.find in
-    sym (line_more a.format a.options a.line.now f.result f.ensures.value c.if-space-line.false _ (part_to_end a.line.now (f.result + 1)) (λ e. omega (arith, e, g.ensures.value)))
+    rw c.at-then-find-end.ensures (sym (line_more a.format a.options a.line.now f.result f.ensures.value c.if-space-line.false _ (part_to_end a.line.now (f.result + 1)) (λ e. omega (arith, e, g.ensures.value))))
 
 pub returns : goal.returns
 returns c = let a = c.args in

@@ -8,7 +8,7 @@ use Rattle.outage_sheet.proofs.row.row_in.Goals as goal
 
 pub returns-then-newline-text : goal.returns-then-newline-text
 returns-then-newline-text c = let a = c.args in
-    sym (row_none a.format a.options a.text.now (omega (arith, c.requires)))
+    rw c.at.ensures (sym (row_none a.format a.options a.text.now (omega (arith, c.requires))))
 
 pub slice_bounds-line_window-end : goal.slice_bounds-line_window-end
 slice_bounds-line_window-end c = sym (length-take-le _ _ (omega (arith, c.requires, before_le 10 c.args.text.now)))

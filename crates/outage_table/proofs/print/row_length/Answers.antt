@@ -3,6 +3,6 @@ use native.Mathlib.Omega.{arith}
 use Rattle.outage_table.proofs.TextLaws.{row_length}
 use Rattle.outage_table.proofs.print.row_length.Goals as goal
 
-pub returns-clause-value : goal.returns-clause-value
-returns-clause-value c = let a = c.args in
+pub returns : goal.returns
+returns c = let a = c.args in
     (omega (arith, row_length a.format a.options a.window), omega arith)

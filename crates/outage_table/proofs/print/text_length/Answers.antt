@@ -11,7 +11,7 @@ use Rattle.outage_table.proofs.print.text_length.Goals.{Start}
 use Rattle.outage_table.proofs.print.text_length.Goals as goal
 
 short : (s : Start) → length (text_of s.args.format s.args.options s.args.x) ≤ longest_text
-short s = text_short s.args.format s.args.options s.args.x (subst T (sym s.well_formed.0.1) tt) s.requires.1
+short s = text_short s.args.format s.args.options s.args.x (subst T (sym s.well_formed.0.1) tt) s.requires
 
-pub returns-in-Refused-clause-value : goal.returns-in-Refused-clause-value
-returns-in-Refused-clause-value c = absurd (text_served c.args.format c.args.options c.args.x c.args.scratch.now c.requires.1 (omega (arith, short (goal.at.returns-in-Refused-clause-value c).Start)) _ _ (c.in-Refused.ensures.result_value))
+pub returns-in-Err : goal.returns-in-Err
+returns-in-Err c = absurd (text_served c.args.format c.args.options c.args.x c.args.scratch.now c.requires (omega (arith, short (goal.at.returns-in-Err c).Start)) _ _ (c.in-Err.ensures.result_value))

@@ -9,7 +9,4 @@ use Rattle.outage_table.proofs.to_sheet.rows_length.Given as goal
 
 abbrev pub invariant-loop-i : goal.invariant-loop-i
 invariant-loop-i l =
-    (length_after l.format l.options l.sum (rows_from l.table l.n l.i (l.n - l.i)) ≡ length_after l.format l.options 0 (rows_from l.table l.n 0 l.n)) × (l.i ≤ l.n) × (l.sum ≤ (2 * (longest_text + 1)) * l.i) × (length l.scratch ≡ longest_text)
-
-abbrev pub decreases-loop-i : goal.decreases-loop-i
-decreases-loop-i l = l.n - l.i
+    (length_after l.format l.options l.sum (rows_from l.table.bytes.now l.table.rows l.i (l.table.rows - l.i)) ≡ length_after l.format l.options 0 (rows_from l.table.bytes.now l.table.rows 0 l.table.rows)) × (l.sum ≤ (2 * (longest_text + 1)) * l.i)
