@@ -60,10 +60,10 @@ fn make_call(call: Call, bytes: &[u8], out: &mut [u8]) -> Result<usize, Refusal>
 
 // What the call answers to a line's bytes, with as many bytes lent as it says.
 fn given(input: &[u8], out: &mut [u8]) -> Result<Result<usize, Refusal>, Malformed> {
+    let mut space = space();
     let mut fields = Fields::of(input);
     let asked = call_of(&mut fields)?;
     let room = fields.count()? as usize;
-    let mut space = space();
     let bytes = hex::bytes(fields.word()?, &mut space)?;
     fields.end()?;
     let buffer = out.get_mut(..room).ok_or(Malformed)?;
