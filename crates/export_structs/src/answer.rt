@@ -1,7 +1,7 @@
 // Answers as they cross. No enum does, so each is a struct of numbers, and no generic struct, which an exported function cannot have in its signature: the refusal's number, 0 where nothing was refused, its place, and what was asked for.
-ghost use Rattle.std.specs.Prelude.{◌≡◌};
-ghost use Rattle.lexical_util.specs.Answer.{of_result};
-ghost use Rattle.lexical_rewrite_spec.specs.Chain.{at_station};
+ghost use Rattle.std.specs.Prelude.{◌≡◌, cond};
+ghost use Rattle.lexical_util.specs.Answer.{refused, of_result};
+ghost use Rattle.lexical_rewrite_spec.specs.Chain.{reading_refused_at, writing_refused_at, at_station};
 ghost use Rattle.lexical_rewrite.specs.Answer.{of_rewritten, of_chained};
 ghost use Rattle.export_structs.specs.Code.{parts_of};
 ghost use Rattle.export_structs.specs.Structs.{answer_of, answer_f64_of, answer_f32_of, station_answer_of};
@@ -44,6 +44,62 @@ pub struct StationAnswer {
     pub station: usize,
     pub place: usize,
     pub value: usize,
+}
+
+// A refusal by any number and place, also one that no `Reason` has.
+impl Answer {
+    pub fn refused(number: u32, place: usize) -> Answer
+        ensures { result ≡ answer_of (refused number place) }
+    {
+        let value = 0;
+        Answer {
+            number,
+            place,
+            value,
+        }
+    }
+}
+
+impl AnswerF64 {
+    pub fn refused(number: u32, place: usize) -> AnswerF64
+        ensures { result ≡ answer_f64_of (refused number place) }
+    {
+        let value: f64 = 0.0;
+        AnswerF64 {
+            number,
+            place,
+            value,
+        }
+    }
+}
+
+impl AnswerF32 {
+    pub fn refused(number: u32, place: usize) -> AnswerF32
+        ensures { result ≡ answer_f32_of (refused number place) }
+    {
+        let value: f32 = 0.0;
+        AnswerF32 {
+            number,
+            place,
+            value,
+        }
+    }
+}
+
+impl StationAnswer {
+    // The station's writing refused, or its reading.
+    pub fn refused(number: u32, writing: bool, station: usize, place: usize) -> StationAnswer
+        ensures { result ≡ station_answer_of (cond writing (writing_refused_at station number place) (reading_refused_at station number place)) }
+    {
+        let value: usize = 0;
+        StationAnswer {
+            number,
+            writing,
+            station,
+            place,
+            value,
+        }
+    }
 }
 
 // Number, place and value, as each answer has them: a refusal has what is given for none.
@@ -112,13 +168,7 @@ impl From<Result<usize, ChainRefusal>> for StationAnswer {
                     RewriteRefusal::Reading(refusal) => (false, refusal),
                     RewriteRefusal::Writing(refusal) => (true, refusal),
                 };
-                StationAnswer {
-                    number: refusal.reason.number(),
-                    writing,
-                    station,
-                    place: refusal.place,
-                    value: 0,
-                }
+                StationAnswer::refused(refusal.reason.number(), writing, station, refusal.place)
             }
         }
     }
