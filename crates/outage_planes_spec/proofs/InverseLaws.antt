@@ -44,13 +44,13 @@ planes_size n at t = bytes_length 8 t n 8 at ∙ mul_comm n 8
 pub floats_size : (n at : ℕ) (t : List ℕ) → length (floats_of n at t) ≡ 8 * n
 floats_size n at t = bytes_length n t 8 n at
 
-planes_transpose : Transposes planes_of floats_of
+pub planes_transpose : Transposes planes_of floats_of
 planes_transpose = record {
   sized = planes_size;
   back = λ n at t p h same. transposed_back 8 n at t p h same;
 }
 
-floats_transpose : Transposes floats_of planes_of
+pub floats_transpose : Transposes floats_of planes_of
 floats_transpose = record {
   sized = floats_size;
   back = λ n at t p h same. rw (mul_comm n 8) at (transposed_back n 8 at t p (rw (mul_comm n 8) h) (λ x q. same x (rw (mul_comm n 8) at q)));
@@ -116,7 +116,7 @@ module _ (make again : Make) (T : Transposes make again) (t : List ℕ) (n : ℕ
   unfolding by_column
   made_counted k h = header_count_lem k made n (same_header h)
 
-  made_size : length (by_column make n t) ≡ table_size n
+  pub made_size : length (by_column make n t) ≡ table_size n
   unfolding by_column
   made_size = made_length
 
