@@ -1,7 +1,9 @@
 // Derived from `write_float` of lexical-write-float/src/binary.rs, for equal pairs, and hex.rs, for mixed ones, changed: one body over a float's parts for both widths and all ten pairs, and refusals for assertions.
-ghost use Rattle.std.specs.Prelude.{◌≡◌, List, ◌++◌, ℕ, ◌^◌, ◌≤◌, ◌<◌, nat_abs, length, drop};
+ghost use Rattle.std.specs.Prelude.{◌≡◌, T, List, ◌++◌, ℕ, ◌^◌, ◌≤◌, ◌<◌, nat_abs, length, drop};
 ghost use Rattle.lexical_util.specs.Answer.{done, written, held, of_result};
+ghost use Rattle.std.specs.Float.Ieee.{fits};
 ghost use Rattle.lexical_float.specs.Sign.{minus_sign};
+ghost use Rattle.lexical_float.specs.Parts.{parts_of, IsValue};
 ghost use Rattle.lexical_format.specs.declared.format.NumberFormat.{NumberFormat};
 ghost use Rattle.lexical_format.specs.declared.options.Options.{Options};
 ghost use Rattle.lexical_write_float_spec.specs.Value.{exact_digits};
@@ -219,6 +221,15 @@ fn write_parts(
     write_checked(parts, format, options, checked, buffer)
 }
 
+// A float's parts, by a function of its own: its contract sees what goes wrong at one width alone.
+fn parts<F: Float>(x: F) -> Parts
+    ensures parts { result ≡ parts_of F.format (F.value x) }
+    ensures value { IsValue (F.value x) result }
+    ensures fits { T (fits F.format (F.value x)) }
+{
+    x.parts()
+}
+
 // The text of a float of either width under a format, or a refusal, which leaves every byte as it was.
 pub fn write_float<F: Float>(
     x: F,
@@ -231,5 +242,5 @@ pub fn write_float<F: Float>(
     ensures longest { NoLonger (of_result result) }
     ensures served { NeverRefused format options (F.value x) buffer.old (of_result result) }
 {
-    write_parts(x.parts(), format, options, buffer)
+    write_parts(parts(x), format, options, buffer)
 }
