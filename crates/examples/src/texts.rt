@@ -66,7 +66,7 @@ fn print_text(rt: &impl Print, n: usize, out: &[u8]) -> io::Result<()> {
     print::first(rt, out, n)
 }
 
-// How many bytes from a place on are as they were. A `for`, since `filter` and `count` take three times as long.
+// How many bytes from a place on are as they were. A `for`, since `skip`, `filter` and `count` take three times the instructions.
 fn kept(out: &[u8], from: usize) -> usize {
     let mut count = 0;
     for byte in out.get(from..).unwrap_or(&[]) {
